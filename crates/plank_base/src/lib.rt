@@ -3,6 +3,7 @@
 
 mod keys;
 mod label;
+mod laws;
 mod limits;
 mod memory;
 mod obligations;
@@ -13,6 +14,7 @@ mod typing;
 
 pub use keys::{Key, NodeId, ThreadId};
 pub use label::Label;
+pub use laws::{bounded_path_laws, path_laws};
 pub use limits::{
     BYTES_LIMIT, EFFECT_FACTS_LIMIT, FLAGS_LIMIT, LOCATIONS_LIMIT, MARK_WORDS_PER_LOCATION,
     METHODS_LIMIT, NAMES_LIMIT, NESTING_LIMIT, NODES_LIMIT, POINTERS_LIMIT, SITES_LIMIT, Thing,
@@ -24,3 +26,6 @@ pub use operations::Op;
 pub use places::Place;
 pub use sequence::Sequence;
 pub use typing::TypeKind;
+
+#[cfg(test)]
+mod tests;
