@@ -1,0 +1,8 @@
+//! Histories of concurrent calls, linearizability after Herlihy and Wing (1990), and the trace law.
+#![tactic(auto)]
+
+mod calls;
+mod events;
+
+pub use calls::SeqCall;
+pub use events::Event;
