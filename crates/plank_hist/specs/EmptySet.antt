@@ -1,6 +1,5 @@
 -- Histories that a set which stays empty explains.
 use Rattle.std.specs.Prelude.{◌≡◌, ℕ, Bool, false, ℤ, List, Some, slice_get}
-use Rattle.plank_base.specs.declared.operations.Op.{Op}
 use Rattle.plank_base.specs.declared.operations.Op.TheVariants.{Insert}
 use Rattle.plank_base.specs.declared.keys.ThreadId.{ThreadId}
 use Rattle.plank_hist.specs.declared.events.Event.{Event}

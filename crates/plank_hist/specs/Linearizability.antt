@@ -1,6 +1,5 @@
 -- Linearizability after Herlihy and Wing (1990): the calls of a history, listed one after another as if each took no time.
-use Rattle.std.specs.Prelude.{◌≡◌, ℕ, ◌<◌, Bool, true, ℤ, List, map, Some, slice_get}
-use Rattle.plank_base.specs.declared.operations.Op.{Op}
+use Rattle.std.specs.Prelude.{◌≡◌, ℕ, ◌<◌, true, List, map, Some, slice_get}
 use Rattle.plank_hist.specs.declared.events.Event.{Event}
 use Rattle.plank_hist.specs.Objects.{Object, Finished, legal}
 use Rattle.plank_hist.specs.Sets.{set_of_keys}

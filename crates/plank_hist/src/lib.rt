@@ -3,6 +3,7 @@
 
 mod calls;
 mod events;
+pub mod laws;
 
 pub use calls::SeqCall;
 pub use events::Event;
