@@ -4,3 +4,4 @@ pub mod TraceLaw
 pub mod Answered
 pub mod SetSteps
 pub mod EmptySetLaw
+pub mod Presence

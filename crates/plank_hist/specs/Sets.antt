@@ -5,7 +5,7 @@ use Rattle.std.specs.Ordering.{int_eq}
 use Rattle.plank_base.specs.declared.operations.Op.{Op}
 use Rattle.plank_base.specs.declared.operations.Op.TheVariants.{Contains, Insert, Delete}
 use Rattle.plank_hist.specs.declared.calls.SeqCall.{SeqCall}
-use Rattle.plank_hist.specs.Objects.{Object, Finished, legal}
+use Rattle.plank_hist.specs.Objects.{Object, Finished, replayed, legal}
 
 -- what a call answers where its key is present, or is not
 abbrev pub answer_of : Op → Bool → Bool
@@ -29,6 +29,10 @@ set_of_keys = record {
 
 abbrev pub finished : SeqCall → Finished (Op × ℤ) Bool
 finished call = record { input = (call.op, call.key); answer = call.answer }
+
+-- the keys that are present after these calls of a set that starts empty
+abbrev pub holds_after : List SeqCall → ℤ → Bool
+holds_after calls = replayed set_of_keys set_of_keys.first (map finished calls)
 
 -- whether these calls are legal for a set that starts empty
 abbrev pub is_legal_of_set : List SeqCall → Bool

@@ -5,5 +5,8 @@ mod calls;
 mod events;
 pub mod laws;
 
-pub use calls::SeqCall;
+pub use calls::{SeqCall, is_legal};
 pub use events::Event;
+
+#[cfg(test)]
+mod tests;
