@@ -13,18 +13,17 @@ use Rattle.plank_hist.specs.declared.events.Event.TheVariants.{Invoke, Respond}
 use Rattle.plank_hist.specs.Sets.{answer_of, present_after, set_of_keys}
 use Rattle.plank_hist.specs.Histories.{IsInvoked, Responds, happening_of, history_of}
 use Rattle.plank_hist.specs.Histories.Happening.{responded}
-use Rattle.plank_hist.specs.Linearizability.{Listing, IsLinearizableSet}
+use Rattle.plank_hist.specs.Linearizability.{Listing}
 use Rattle.plank_hist.specs.Traces.{Trace, TakesPlace, Explains}
 use Rattle.plank_hist.specs.EmptySet.{AnswersFalse, AnswersNoInsert}
 use Rattle.plank_hist.proofs.Answered.{answered_at, IsAnsweredAt, answered_at-answered, responds-answered_at, responds_once, responds_alike}
 use Rattle.plank_hist.proofs.SetSteps.{set_kept}
-use Rattle.plank_hist.proofs.TraceLaw.{linearizable}
 
-abbrev empty_set : ℤ → Bool
+abbrev pub empty_set : ℤ → Bool
 empty_set key = false
 
 -- the set stays empty; the event at a place happens at the moment after it
-abbrev empty_trace : List Event → Trace (ℤ → Bool) (Op × ℤ) Bool
+abbrev pub empty_trace : List Event → Trace (ℤ → Bool) (Op × ℤ) Bool
 empty_trace events = record {
   last = length (history_of events);
   states = λ m. empty_set;
@@ -65,7 +64,7 @@ module _ (events : List Event) (no_insert : AnswersNoInsert events) (answers_fal
   observes : (m k : ℕ) (c : Listing (Op × ℤ) Bool) → TakesPlace (empty_trace events) m k c → IsAnsweredAt (history_of events) m k c
   observes m k c takes = answered_at-answered (history_of events) m k c takes.at
 
-  empty_trace_explains : Explains set_of_keys (history_of events) (empty_trace events)
+  pub empty_trace_explains : Explains set_of_keys (history_of events) (empty_trace events)
   empty_trace_explains = record {
     first_state = refl;
     first_changer = refl;
@@ -86,6 +85,3 @@ module _ (events : List Event) (no_insert : AnswersNoInsert events) (answers_fal
     once = λ m k n l c d first second same. let a = observes m k c first in let b = observes n l d second in
         (responds_once (history_of events) d.place m n c.answer d.answer (subst (λ i. Responds (history_of events) i m c.answer) same a.responds) b.responds, a.only ∙ sym b.only);
   }
-
-  pub empty_set_linearizable : IsLinearizableSet events
-  empty_set_linearizable = linearizable set_of_keys (history_of events) (empty_trace events) empty_trace_explains
