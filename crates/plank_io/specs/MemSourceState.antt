@@ -1,5 +1,5 @@
 -- A source in memory as its callers see it: what a read answers, and what the source is afterwards.
-use Rattle.std.specs.Prelude.{ℕ, min, List, [], length, drop, ◌==◌, if◌then◌else◌}
+use Rattle.std.specs.Prelude.{ℕ, min, List, length, drop, ◌==◌, if◌then◌else◌}
 use Rattle.plank_io.specs.Faults.{next_count, is_listed}
 use Rattle.plank_io.specs.declared.sources.Got.{Got}
 use Rattle.plank_io.specs.declared.sources.Got.TheVariants.{Bytes, End, Failed}

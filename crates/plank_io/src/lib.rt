@@ -18,3 +18,6 @@ pub use mem_source::MemSource;
 pub use sinks::{Sink, Took};
 pub use sources::{Got, Source};
 pub use whole::{PIECE_LIMIT, Reading, Written, read_up_to, write_all};
+
+#[cfg(test)]
+mod tests;

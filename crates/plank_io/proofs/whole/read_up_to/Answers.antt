@@ -1,5 +1,5 @@
 -- A piece that finds no room was consumed all the same.
-use Rattle.std.proofs.Common.{◌≡◌, ℕ, ◌+◌, ◌≤◌, ◌++◌, OnErr, Result, Ok, Err, arith, length, take, length-append, length-take}
+use Rattle.std.proofs.Common.{◌+◌, ◌≤◌, ◌++◌, OnErr, Result, Ok, Err, arith, length, take, length-append, length-take}
 use Rattle.std.proofs.KnownBytes.{Consumes-trans}
 use Rattle.plank_io.specs.Whole.{ConsumesUpTo}
 use Rattle.plank_io.proofs.whole.read_up_to.Goals as goal
