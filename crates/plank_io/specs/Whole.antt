@@ -28,10 +28,11 @@ ReadsUpTo old new most (reading.Whole bytes) = GivesAll old new most bytes.items
 ReadsUpTo old new most (reading.Over bytes) = GivesOver old new most bytes.items
 ReadsUpTo old new most reading.Failed = ConsumesUpTo old new most
 
--- what a writing of this output did to the bytes taken, by its outcome: all was appended, or the
--- first n bytes, fewer than all
+-- what a writing of this output did to the bytes taken, by its outcome
 abbrev pub WritesAll : Option (List ℕ) → Option (List ℕ) → List ℕ → Written → Type 0
+-- all was appended
 WritesAll old new output written.Whole = Appends old new output
+-- the first n bytes were appended, fewer than all
 WritesAll old new output (written.Failed n) = (n < length output) × Appends old new (take n output)
 
 -- the writing failed

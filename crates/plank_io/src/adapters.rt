@@ -8,8 +8,8 @@ use std::io::{Read, Write};
 /// The real input: a source that passes on what a reader tells. Every error of the reader counts as
 /// a fault, `Interrupted` among them.
 ///
-/// The two adapters are the trusted edge of the prover. Where a reader does not tell its bytes, as
-/// one of the system, no contract says that they are those of the outside, or that an error was one.
+/// The two adapters are the trusted edge of the prover. A reader of the system does not tell its
+/// bytes, and then no contract says that they are the outside's, or that an error was the outside's.
 #[derive(Drop)]
 pub struct ReaderSource<R: Read + Drop> {
     reader: R,
@@ -58,8 +58,8 @@ impl<R: Read + Drop> Source for ReaderSource<R> {
 /// The real output: a sink that passes on what a writer tells. Every error of the writer counts as
 /// a fault, and so does a writer that takes nothing.
 ///
-/// It holds nothing back. What the writer holds back, as a `BufWriter`, is for the caller to flush:
-/// so give it a writer that does not, or lend it one by `&mut`.
+/// The sink holds nothing back and flushes nothing. Lend it a writer that does hold back, as a
+/// `BufWriter`, by `&mut`, and flush that writer afterwards.
 #[derive(Drop)]
 pub struct WriterSink<W: Write + Drop> {
     writer: W,
