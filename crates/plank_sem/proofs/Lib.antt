@@ -1,0 +1,2 @@
+pub mod HeldMaps
+pub mod QuietRuns

@@ -1,0 +1,112 @@
+ghost use Rattle.std.specs.Prelude.{◌≡◌, ◌≢◌, ◌≤◌, List, ℕ, map, length};
+ghost use Rattle.std.specs.String.{string_bytes};
+ghost use Rattle.plank_io.specs.Whole.{GivesAll};
+ghost use Rattle.plank_top.specs.declared.words.Command.{Command};
+ghost use Rattle.plank_top.specs.Words.{words_of};
+ghost use Rattle.plank_top.specs.Answers.{refusal};
+ghost use Rattle.plank_top.specs.Replies.{answer_in};
+ghost use Rattle.plank_top.specs.Endings.{Ends, Concludes, Serves, told};
+ghost use Rattle.plank_top.specs.OneNode.{IsSound};
+
+use crate::replies::{Reply, refuse, verify};
+use crate::status::Status;
+use crate::words::{Command, command_of};
+use plank_base::{BYTES_LIMIT, OutOfMemory, Thing};
+use plank_io::{Gate, Reading, Sink, Source, Written, read_up_to, write_all};
+use plank_sem::answers_false_without_insert_law;
+use std::alloc::Global;
+
+/// Writes a reply whole, and answers its status or the sink's fault.
+fn finish<K: Sink>(sink: &mut K, reply: &Reply) -> Status
+    ensures { Ends (told (K.taken sink.old) (K.taken sink.new) (K.faults sink.old) (K.faults sink.new)) result (answer_in reply.now) }
+{
+    match write_all(sink, &reply.output) {
+        Written::Whole => reply.status,
+        Written::Failed(_) => Status::WriteFault,
+    }
+}
+
+/// Refuses with one line.
+fn end_refused<K: Sink>(alloc: Global, sink: &mut K, status: Status) -> Status
+    ensures { Ends (told (K.taken sink.old) (K.taken sink.new) (K.faults sink.old) (K.faults sink.new)) result (refusal status) }
+{
+    match refuse(alloc, status) {
+        Ok(reply) => finish(sink, &reply),
+        Err(OutOfMemory) => Status::OutOfMemory,
+    }
+}
+
+/// Answers a whole text.
+fn conclude<K: Sink>(alloc: Global, command: Command, text: &[u8], sink: &mut K) -> Status
+    requires { length text.now ≤ BYTES_LIMIT }
+    ensures { Concludes command text.now (told (K.taken sink.old) (K.taken sink.new) (K.faults sink.old) (K.faults sink.new)) result }
+{
+    let reply = match command {
+        Command::Verify => verify(alloc, text),
+    };
+    match reply {
+        Ok(reply) => finish(sink, &reply),
+        Err(OutOfMemory) => Status::OutOfMemory,
+    }
+}
+
+/// Reads a text and answers it.
+fn serve<S: Source, K: Sink>(
+    alloc: Global,
+    command: Command,
+    source: &mut S,
+    sink: &mut K,
+) -> Status
+    ensures { Serves command
+        (told (S.left source.old) (S.left source.new) (S.faults source.old) (S.faults source.new))
+        (told (K.taken sink.old) (K.taken sink.new) (K.faults sink.old) (K.faults sink.new))
+        result }
+{
+    match read_up_to(alloc, source, BYTES_LIMIT as usize) {
+        Ok(Reading::Whole(text)) => conclude(alloc, command, &text, sink),
+        Ok(Reading::Over(_)) => {
+            let too_large = Status::TooLarge(Thing::Bytes, BYTES_LIMIT + 1, BYTES_LIMIT);
+            end_refused(alloc, sink, too_large)
+        }
+        Ok(Reading::Failed) => Status::ReadFault,
+        Err(OutOfMemory) => Status::OutOfMemory,
+    }
+}
+
+/// The call that the program makes: judges the text of the source as the words ask, and writes the
+/// report or the line of a refusal to the sink.
+///
+/// The words are those of a command line without the program's name. At most 65,537 bytes are read, in
+/// pieces of at most 4,096, and nothing is written before the whole output is made. Where memory is
+/// refused, nothing was written.
+pub fn top<R, S: Source, K: Sink, G: Gate>(
+    _rt: &R,
+    alloc: Global,
+    words: &[String],
+    source: &mut S,
+    sink: &mut K,
+    _gate: &G,
+) -> Status
+    // Words that name no command are refused, and nothing is read.
+    ensures usage { ((command : Command) → map string_bytes words.now ≢ words_of command) →
+        (source.new ≡ source.old)
+        × Ends (told (K.taken sink.old) (K.taken sink.new) (K.faults sink.old) (K.faults sink.new)) result (refusal Status.Usage) }
+
+    // Each answer to a command has its cause.
+    ensures served { (command : Command) → map string_bytes words.now ≡ words_of command →
+        Serves command
+        (told (S.left source.old) (S.left source.new) (S.faults source.old) (S.faults source.new))
+        (told (K.taken sink.old) (K.taken sink.new) (K.faults sink.old) (K.faults sink.new))
+        result }
+
+    // Accepted is said of a text alone whose every run of any number of threads has a history that is
+    // linearizable to a set.
+    ensures sound { result ≡ Status.Accepted →
+        (text : List ℕ) × GivesAll (S.left source.old) (S.left source.new) BYTES_LIMIT text × IsSound text }
+{
+    answers_false_without_insert_law();
+    match command_of(words) {
+        Some(command) => serve(alloc, command, source, sink),
+        None => end_refused(alloc, sink, Status::Usage),
+    }
+}

@@ -1,0 +1,14 @@
+//! The top call: from the words of a command line and the bytes of a text to a report and a status.
+#![tactic(auto)]
+
+mod entry;
+mod one_node;
+mod printing;
+mod replies;
+mod status;
+#[cfg(test)]
+mod tests;
+mod words;
+
+pub use entry::top;
+pub use status::Status;

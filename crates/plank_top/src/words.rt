@@ -1,0 +1,22 @@
+ghost use Rattle.std.specs.Prelude.{◌≡◌, ◌≢◌, map, IfSome, IfNone};
+ghost use Rattle.std.specs.String.{string_bytes};
+ghost use Rattle.plank_top.specs.declared.words.Command.{Command};
+ghost use Rattle.plank_top.specs.Words.{words_of};
+
+/// What the words of a command line ask for.
+#[derive(Clone, Copy, Debug, PartialEq, Eq)]
+pub enum Command {
+    /// Judges the text of the source.
+    Verify,
+}
+
+/// The command that the words name. The program's own name is not among them.
+pub fn command_of(words: &[String]) -> Option<Command>
+    ensures named { IfSome result (λ command. map string_bytes words.now ≡ words_of command) }
+    ensures none { IfNone result ((command : Command) → map string_bytes words.now ≢ words_of command) }
+{
+    match words {
+        [word] if word.as_str() == "verify" => Some(Command::Verify),
+        _ => None,
+    }
+}
