@@ -1,0 +1,6 @@
+pub mod Bytes
+pub mod Kinds
+pub mod Lexemes
+pub mod Places
+pub mod Spelling
+pub mod Tokens
