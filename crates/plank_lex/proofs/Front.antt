@@ -1,10 +1,9 @@
 -- The lexeme at the front of a text, by the text's first byte.
-use Rattle.std.proofs.Common.{◌≡◌, ℕ, ◌<◌, ◌≤◌, List, [], ◌∷◌, length, get_or, refl, arith, Option, Some, None}
+use Rattle.std.proofs.Common.{◌≡◌, ℕ, ◌<◌, ◌≤◌, List, [], ◌∷◌, length, get_or, refl, arith, Some, None}
 use Rattle.std.specs.Prelude.{nat_eq, if◌then◌else◌, codes}
 use Rattle.std.specs.List.{take_while, starts_with}
 use Rattle.plank_lex.specs.Bytes.{is_separator, is_run_byte}
 use Rattle.plank_lex.specs.Lexemes.{lexeme_of, lexeme_as, line_length, word_lexeme, symbol_lexeme}
-use Rattle.plank_lex.specs.declared.lexemes.Lexeme.{Lexeme}
 use Rattle.plank_lex.specs.declared.lexemes.LexemeKind.TheVariants as lexeme
 
 pub lexeme_of_first : (text : List ℕ) → 1 ≤ length text → lexeme_of text ≡ (if is_separator (get_or text 0 0) then Some (lexeme_as lexeme.Gap 1)

@@ -1,5 +1,5 @@
 -- Tests of a token's kind.
-use Rattle.std.specs.Prelude.{ℕ, Bool, true, false, List, Option, Some, None}
+use Rattle.std.specs.Prelude.{ℕ, Bool, false, List, Option, Some, None}
 use denote.Enum.Bare.{sameb}
 use Rattle.plank_lex.specs.contracts.symbols.Symbol as symbols
 use Rattle.plank_lex.specs.contracts.words.Reserved as words

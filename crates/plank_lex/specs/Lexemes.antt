@@ -1,5 +1,5 @@
 -- What stands at the front of a text: a separator, a comment, a symbol or a word, the longest there is.
-use Rattle.std.specs.Prelude.{ℕ, Bool, not, ◌==◌, List, [], ◌∷◌, length, take, nat_eq, if◌then◌else◌, Option, Some, None, codes}
+use Rattle.std.specs.Prelude.{ℕ, not, ◌==◌, List, [], ◌∷◌, length, take, nat_eq, if◌then◌else◌, Option, Some, None, codes}
 use Rattle.std.specs.List.{prefix_len, take_while, starts_with}
 use Rattle.std.specs.Option.{option_map, option_or}
 use Rattle.plank_lex.specs.Bytes.{line_feed, is_separator, is_run_byte}

@@ -1,5 +1,5 @@
 -- How symbols and reserved words are spelled, and which bytes are a name.
-use Rattle.std.specs.Prelude.{ℕ, Bool, true, false, ◌&&◌, List, [], ◌∷◌, find, nat_eq, Option, is_none, take, unwrap_or}
+use Rattle.std.specs.Prelude.{ℕ, Bool, false, ◌&&◌, List, [], ◌∷◌, find, nat_eq, Option, is_none}
 use Rattle.std.specs.List.{list_all}
 use lib.Chars.{codes}
 use lib.Pointwise.{pointwise}
