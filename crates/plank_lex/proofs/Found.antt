@@ -10,7 +10,7 @@ use Rattle.plank_lex.specs.Spelling.{spelling_of, word_of, symbol_of, reserved_o
 use Rattle.plank_lex.specs.Lexemes.{lexeme_of, lexeme_as, line_length, word_lexeme, word_lexeme_by, symbol_at, symbol_lexeme}
 use Rattle.plank_lex.specs.Parts.{Part, gap, token, bytes_of, IsPart, EndsBefore, is_in_line}
 use Rattle.plank_lex.proofs.Runs.{prefix_len-append}
-use Rattle.plank_lex.proofs.Spelled.{symbol_of_spells, reserved_of_word, word_of_runs, word_of_nonempty, spelling_of_short}
+use Rattle.plank_lex.proofs.Spelled.{symbol_of_spells, reserved_of_word, word_of_runs, word_of_long, spelling_of_short}
 use Rattle.plank_lex.specs.declared.symbols.Symbol.{Symbol}
 use Rattle.plank_lex.specs.declared.symbols.Symbol.TheVariants as symbol
 use Rattle.plank_lex.specs.declared.words.Reserved.{Reserved}
@@ -68,7 +68,7 @@ run_found (b ∷ bs) rest some all ends =
 
 reserved_found : (r : Reserved) (rest : List ℕ) → EndsBefore is_run_byte rest → lexeme_of (word_of r ++ rest) ≡ Some (lexeme_as (lexeme.Reserved r) (length (word_of r)))
 reserved_found r rest ends =
-    run_found (word_of r) rest (word_of_nonempty r) (word_of_runs r) ends ∙ ap (word_lexeme_by (word_of r)) (reserved_of_word r)
+    run_found (word_of r) rest (omega (arith, word_of_long r)) (word_of_runs r) ends ∙ ap (word_lexeme_by (word_of r)) (reserved_of_word r)
 
 name_bytes_run : (bytes : List ℕ) → list_all is_name_byte bytes ≡ true → list_all is_run_byte bytes ≡ true
 name_bytes_run [] h = refl
@@ -159,7 +159,7 @@ pub part_nonempty : (part : Part) (rest : List ℕ) → IsPart part rest → 1 �
 part_nonempty (gap bytes) rest (inl separator) = omega (arith, ap length separator.alone)
 part_nonempty (gap bytes) rest (inr comment) = omega (arith, ap length comment.begins)
 part_nonempty (token (kind.Symbol s) bytes) rest symbol = omega (arith, ap length symbol.spelled, (spelling_of_short s).0)
-part_nonempty (token (kind.Reserved r) bytes) rest word = omega (arith, ap length word.0, word_of_nonempty r)
+part_nonempty (token (kind.Reserved r) bytes) rest word = omega (arith, ap length word.0, word_of_long r)
 part_nonempty (token (kind.Name label) bytes) rest name =
     omega (arith, ap length name.0, (word_runs label (and_true (is_word label) (is_none (reserved_of label)) name.1).0).0)
 part_nonempty (token kind.End bytes) rest none = absurd none

@@ -1,14 +1,13 @@
 -- What bytes spell is found again, and what is found is spelled so.
-use Rattle.std.proofs.Common.{◌≡◌, ℕ, ◌≤◌, Bool, true, false, cond, List, [], ◌∷◌, length, refl, sym, subst, arith, Some}
+use Rattle.std.proofs.Common.{◌≡◌, ℕ, ◌<◌, ◌≤◌, Bool, true, false, cond, List, [], ◌∷◌, length, refl, sym, ap, subst, arith, Option, Some, None}
 use Rattle.std.specs.Prelude.{find, nat_eq}
 use Rattle.std.specs.List.{list_all}
 use Rattle.std.specs.Cmp.Lexicographic.{same_text}
 use lib.Pointwise.{pointwise}
 use Rattle.plank_lex.specs.Bytes.{is_run_byte}
-use Rattle.plank_lex.specs.Spelling.{spelling_of, word_of, symbol_of, reserved_of}
+use Rattle.plank_lex.specs.Spelling.{spelling_of, symbols, word_of, symbol_of, reserved_of}
 use Rattle.plank_lex.specs.declared.symbols.Symbol.{Symbol}
 use Rattle.plank_lex.specs.declared.symbols.Symbol.TheVariants as symbol
-use Rattle.plank_lex.specs.declared.symbols.TheConstants.{SYMBOLS}
 use Rattle.plank_lex.specs.declared.words.Reserved.{Reserved}
 use Rattle.plank_lex.specs.declared.words.Reserved.TheVariants as word
 use Rattle.plank_lex.specs.declared.words.TheConstants.{RESERVED_WORDS}
@@ -23,7 +22,7 @@ find_passes {X} p (y ∷ ys) x h =
     ] refl h
 
 pub symbol_of_spells : (bytes : List ℕ) (s : Symbol) → symbol_of bytes ≡ Some s → bytes ≡ spelling_of s
-symbol_of_spells bytes s h = sym (same_text (spelling_of s) bytes (sym (find_passes (λ t. pointwise nat_eq (spelling_of t) bytes) SYMBOLS s h)))
+symbol_of_spells bytes s h = sym (same_text (spelling_of s) bytes (sym (find_passes (λ t. pointwise nat_eq (spelling_of t) bytes) symbols s h)))
 
 pub reserved_of_spells : (bytes : List ℕ) (r : Reserved) → reserved_of bytes ≡ Some r → bytes ≡ word_of r
 unfolding reserved_of
@@ -125,43 +124,44 @@ word_of_runs word.Key = refl
 word_of_runs word.Min = refl
 word_of_runs word.Max = refl
 
-pub word_of_nonempty : (r : Reserved) → 1 ≤ length (word_of r)
-word_of_nonempty word.Structure = omega arith
-word_of_nonempty word.Flag = omega arith
-word_of_nonempty word.Pointer = omega arith
-word_of_nonempty word.Ascending = omega arith
-word_of_nonempty word.Descending = omega arith
-word_of_nonempty word.Free = omega arith
-word_of_nonempty word.Lock = omega arith
-word_of_nonempty word.Unlock = omega arith
-word_of_nonempty word.Root = omega arith
-word_of_nonempty word.Start = omega arith
-word_of_nonempty word.Edge = omega arith
-word_of_nonempty word.Holds = omega arith
-word_of_nonempty word.Keep = omega arith
-word_of_nonempty word.Freeze = omega arith
-word_of_nonempty word.Method = omega arith
-word_of_nonempty word.As = omega arith
-word_of_nonempty word.Variable = omega arith
-word_of_nonempty word.New = omega arith
-word_of_nonempty word.Atomic = omega arith
-word_of_nonempty word.Else = omega arith
-word_of_nonempty word.With = omega arith
-word_of_nonempty word.Test = omega arith
-word_of_nonempty word.Write = omega arith
-word_of_nonempty word.If = omega arith
-word_of_nonempty word.While = omega arith
-word_of_nonempty word.Loop = omega arith
-word_of_nonempty word.Break = omega arith
-word_of_nonempty word.Continue = omega arith
-word_of_nonempty word.Return = omega arith
-word_of_nonempty word.True = omega arith
-word_of_nonempty word.False = omega arith
-word_of_nonempty word.Null = omega arith
-word_of_nonempty word.In = omega arith
-word_of_nonempty word.Key = omega arith
-word_of_nonempty word.Min = omega arith
-word_of_nonempty word.Max = omega arith
+-- a reserved word has two bytes or more
+pub word_of_long : (r : Reserved) → 2 ≤ length (word_of r)
+word_of_long word.Structure = omega arith
+word_of_long word.Flag = omega arith
+word_of_long word.Pointer = omega arith
+word_of_long word.Ascending = omega arith
+word_of_long word.Descending = omega arith
+word_of_long word.Free = omega arith
+word_of_long word.Lock = omega arith
+word_of_long word.Unlock = omega arith
+word_of_long word.Root = omega arith
+word_of_long word.Start = omega arith
+word_of_long word.Edge = omega arith
+word_of_long word.Holds = omega arith
+word_of_long word.Keep = omega arith
+word_of_long word.Freeze = omega arith
+word_of_long word.Method = omega arith
+word_of_long word.As = omega arith
+word_of_long word.Variable = omega arith
+word_of_long word.New = omega arith
+word_of_long word.Atomic = omega arith
+word_of_long word.Else = omega arith
+word_of_long word.With = omega arith
+word_of_long word.Test = omega arith
+word_of_long word.Write = omega arith
+word_of_long word.If = omega arith
+word_of_long word.While = omega arith
+word_of_long word.Loop = omega arith
+word_of_long word.Break = omega arith
+word_of_long word.Continue = omega arith
+word_of_long word.Return = omega arith
+word_of_long word.True = omega arith
+word_of_long word.False = omega arith
+word_of_long word.Null = omega arith
+word_of_long word.In = omega arith
+word_of_long word.Key = omega arith
+word_of_long word.Min = omega arith
+word_of_long word.Max = omega arith
 
 -- a symbol has one or two bytes
 pub spelling_of_short : (s : Symbol) → (1 ≤ length (spelling_of s)) × (length (spelling_of s) ≤ 2)
@@ -181,3 +181,10 @@ spelling_of_short symbol.AtMost = (omega arith, omega arith)
 spelling_of_short symbol.And = (omega arith, omega arith)
 spelling_of_short symbol.Or = (omega arith, omega arith)
 spelling_of_short symbol.Not = (omega arith, omega arith)
+
+reserved_of_short_by : (bytes : List ℕ) → length bytes < 2 → (o : Option Reserved) → reserved_of bytes ≡ o → o ≡ None
+reserved_of_short_by bytes short None e = refl
+reserved_of_short_by bytes short (Some r) e = absurd (omega (arith, ap length (reserved_of_spells bytes r e), word_of_long r))
+
+pub reserved_of_short : (bytes : List ℕ) → length bytes < 2 → reserved_of bytes ≡ None
+reserved_of_short bytes short = reserved_of_short_by bytes short (reserved_of bytes) refl

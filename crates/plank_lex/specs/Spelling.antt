@@ -6,7 +6,6 @@ use lib.Pointwise.{pointwise}
 use Rattle.plank_lex.specs.Bytes.{is_letter, is_name_byte}
 use Rattle.plank_lex.specs.declared.symbols.Symbol.{Symbol}
 use Rattle.plank_lex.specs.declared.symbols.Symbol.TheVariants as symbol
-use Rattle.plank_lex.specs.declared.symbols.TheConstants.{SYMBOLS}
 use Rattle.plank_lex.specs.declared.words.Reserved.{Reserved}
 use Rattle.plank_lex.specs.declared.words.Reserved.TheVariants as word
 use Rattle.plank_lex.specs.declared.words.TheConstants.{RESERVED_WORDS}
@@ -69,9 +68,15 @@ word_of word.Key = codes "key"
 word_of word.Min = codes "MIN"
 word_of word.Max = codes "MAX"
 
+-- every symbol once
+abbrev pub symbols : List Symbol
+symbols =
+    symbol.OpenBrace ∷ symbol.CloseBrace ∷ symbol.OpenParenthesis ∷ symbol.CloseParenthesis ∷ symbol.Colon ∷ symbol.Semicolon ∷ symbol.Comma ∷ symbol.Dot ∷
+    symbol.Assign ∷ symbol.Equal ∷ symbol.NotEqual ∷ symbol.Less ∷ symbol.AtMost ∷ symbol.And ∷ symbol.Or ∷ symbol.Not ∷ []
+
 -- the symbol that is spelled so, if one is
 abbrev pub symbol_of : List ℕ → Option Symbol
-symbol_of bytes = find (λ s. pointwise nat_eq (spelling_of s) bytes) SYMBOLS
+symbol_of bytes = find (λ s. pointwise nat_eq (spelling_of s) bytes) symbols
 
 -- the reserved word that is spelled so, if one is
 unfoldable pub reserved_of : List ℕ → Option Reserved

@@ -2,7 +2,7 @@ use plank_base::{OutOfMemory, Place};
 use thiserror::Error;
 
 /// Why a text has no tokens.
-#[derive(Debug, Drop, Error)]
+#[derive(Clone, Copy, Debug, PartialEq, Eq, Error)]
 pub enum LexFault {
     /// The byte at this place begins no token, and neither does an earlier one.
     #[error("a byte begins no token")]

@@ -6,6 +6,8 @@ mod laws;
 mod lexemes;
 mod lexer;
 mod symbols;
+#[cfg(test)]
+mod tests;
 mod tokens;
 mod words;
 

@@ -22,26 +22,6 @@ pub enum Symbol {
     Not,
 }
 
-/// Every symbol once.
-pub const SYMBOLS: [Symbol; 16] = [
-    Symbol::OpenBrace,
-    Symbol::CloseBrace,
-    Symbol::OpenParenthesis,
-    Symbol::CloseParenthesis,
-    Symbol::Colon,
-    Symbol::Semicolon,
-    Symbol::Comma,
-    Symbol::Dot,
-    Symbol::Assign,
-    Symbol::Equal,
-    Symbol::NotEqual,
-    Symbol::Less,
-    Symbol::AtMost,
-    Symbol::And,
-    Symbol::Or,
-    Symbol::Not,
-];
-
 impl Symbol {
     /// The bytes that spell this symbol.
     pub fn spelling(self) -> &'static [u8]

@@ -52,7 +52,7 @@ impl TokenKind {
 }
 
 /// A token of a text, with the place of its first byte.
-#[derive(Debug, Drop)]
+#[derive(Debug, Drop, PartialEq)]
 pub struct Token {
     pub kind: TokenKind,
     pub place: Place,

@@ -146,10 +146,13 @@ fn find_word(candidates: &[Reserved], word: &[u8]) -> Option<Reserved>
         .find(|candidate| spells(*candidate, word))
 }
 
-/// The reserved word that these bytes spell.
-#[tactic(auto, unfolding(crate::specs::Spelling::reserved_of))]
+/// The reserved word that these bytes spell. None has less than two bytes, as most variables do.
+#[tactic(auto, using(crate::proofs::Spelled::reserved_of_short), unfolding(crate::specs::Spelling::reserved_of))]
 pub(crate) fn reserved_word(word: &[u8]) -> Option<Reserved>
     ensures { result ≡ reserved_of word.now }
 {
+    if word.len() < 2 {
+        return None;
+    }
     find_word(&RESERVED_WORDS, word)
 }

@@ -1,3 +1,4 @@
+-- The bytes that are passed and the line that is left make the line.
 use Rattle.std.proofs.Common.{◌≡◌, ◌+◌, ◌-◌, ◌≤◌, length, drop}
 use Rattle.plank_lex.specs.Lexemes.{line_length}
 use Rattle.plank_lex.proofs.lexemes.line_length.Given as goal

@@ -1,3 +1,4 @@
+-- The bytes that are passed and the run that is left make the run.
 use Rattle.std.proofs.Common.{◌≡◌, ◌+◌, ◌-◌, ◌≤◌, length, drop}
 use Rattle.std.specs.List.{prefix_len}
 use Rattle.plank_lex.specs.Bytes.{is_run_byte}

@@ -1,3 +1,4 @@
+-- Each iteration reads one lexeme, and the list is whole where nothing is left.
 use Rattle.std.proofs.Common.{◌<◌, length, sym, subst, arith, true-eqb, false-eqb}
 use Rattle.plank_lex.specs.Tokens.{IsTokenList}
 use Rattle.plank_lex.proofs.LoopSteps.{read_none, read_stops, read_ends, read_more}

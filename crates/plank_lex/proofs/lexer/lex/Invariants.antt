@@ -1,3 +1,4 @@
+-- The tokens so far are those of the text up to the place, and the rest is left.
 use Rattle.std.proofs.Common.{length}
 use Rattle.plank_lex.proofs.LoopSteps.{IsReadUpTo}
 use Rattle.plank_lex.proofs.lexer.lex.Given as goal

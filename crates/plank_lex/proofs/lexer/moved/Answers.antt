@@ -1,3 +1,4 @@
+-- The next place fits, since no part of a place grows by more than the number of bytes.
 use Rattle.std.proofs.Common.{arith}
 use Rattle.plank_lex.proofs.PlaceLemmas.{place_after-take-within}
 use Rattle.plank_lex.proofs.lexer.moved.Goals as goal

@@ -1,3 +1,4 @@
+-- The place is the one after the bytes so far.
 use Rattle.std.proofs.Common.{◌≡◌, take}
 use Rattle.plank_lex.specs.Places.{place_after}
 use Rattle.plank_lex.proofs.lexer.moved.Given as goal

@@ -1,3 +1,4 @@
+-- The test on reserved words is `==`.
 use Rattle.std.proofs.Common.{rules}
 use Rattle.plank_lex.specs.Kinds.{same_word}
 use Rattle.plank_lex.proofs.tokens.TokenKind.is_reserved.Goals as goal

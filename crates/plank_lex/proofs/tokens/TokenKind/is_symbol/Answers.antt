@@ -1,3 +1,4 @@
+-- The test on symbols is `==`.
 use Rattle.std.proofs.Common.{rules}
 use Rattle.plank_lex.specs.Kinds.{same_symbol}
 use Rattle.plank_lex.proofs.tokens.TokenKind.is_symbol.Goals as goal
