@@ -1,5 +1,5 @@
 -- The histories of runs whose methods are no insert and answer false: what the law of the empty set asks of them.
-use Rattle.std.proofs.Common.{◌≡◌, ◌≢◌, ℕ, ◌<◌, Bool, false, ℤ, List, [], ◌∷◌, ◌++◌, length, get_or, Option, Some, None, map, refl, sym, ap, ◌∙◌, subst, arith}
+use Rattle.std.proofs.Common.{◌≡◌, ◌≢◌, ℕ, false, ℤ, List, Option, Some, None, refl, sym, ap, ◌∙◌, subst}
 use Rattle.std.specs.Prelude.{All, slice_get}
 use Rattle.std.specs.Option.{option_map}
 use Rattle.std.specs.FinMap as fin
@@ -10,7 +10,7 @@ use Rattle.plank_base.specs.declared.operations.Op.TheVariants.{Insert}
 use Rattle.plank_base.specs.declared.keys.ThreadId.{ThreadId}
 use Rattle.plank_hist.specs.declared.events.Event.{Event}
 use Rattle.plank_hist.specs.declared.events.Event.TheVariants.{Invoke as invocation, Respond as response}
-use Rattle.plank_hist.specs.Histories.{Happening, invoked, responded, IsInvoked, happening_of, history_of}
+use Rattle.plank_hist.specs.Histories.{invoked, happening_of}
 use Rattle.plank_hist.specs.EmptySet.{AnswersFalse, AnswersNoInsert}
 use Rattle.plank_sem.specs.declared.methods.Method.{Method}
 use Rattle.plank_sem.specs.declared.calls.Call.{Call}
@@ -18,7 +18,7 @@ use Rattle.plank_sem.specs.declared.steps.Act.{Act}
 use Rattle.plank_sem.specs.declared.steps.Act.TheVariants.{Invoke, Go}
 use Rattle.plank_sem.specs.declared.steps.Choice.{Choice}
 use Rattle.plank_sem.specs.Calls.{Calls}
-use Rattle.plank_sem.specs.Steps.{Next, stepped, refused, begun, returned, gone_on, acted, next}
+use Rattle.plank_sem.specs.Steps.{stepped, begun, returned, gone_on, acted}
 use Rattle.plank_sem.specs.Runs.{Run, begins, goes_on, with_event, history, AnswersFalseWithoutInsert}
 
 -- the event begins no insert, and answers false where it answers

@@ -1,5 +1,5 @@
 -- Runs: worlds that follow one another from the world without calls, by any list of choices of any threads.
-use Rattle.std.specs.Prelude.{◌≡◌, ◌≢◌, Bool, false, List, [], ◌∷◌, ◌++◌, Option, Some, None, All}
+use Rattle.std.specs.Prelude.{◌≡◌, ◌≢◌, false, List, [], ◌∷◌, ◌++◌, Option, Some, None, All}
 use Rattle.std.specs.FinMap.{empty}
 use Rattle.plank_base.specs.declared.operations.Op.TheVariants.{Insert}
 use Rattle.plank_hist.specs.declared.events.Event.{Event}

@@ -1,5 +1,5 @@
 -- Texts of one node with one method that is one return: the form that is judged so far.
-use Rattle.std.specs.Prelude.{◌≡◌, ℕ, Bool, true, false, List, [], ◌∷◌, map, Option, Some, None, Ok, slice_get, codes, if◌then◌else◌}
+use Rattle.std.specs.Prelude.{◌≡◌, ℕ, Bool, true, false, List, [], ◌∷◌, map, Some, Ok, slice_get, codes}
 use Rattle.plank_base.specs.declared.places.Place.{Place}
 use Rattle.plank_base.specs.declared.operations.Op.TheVariants.{Contains}
 use Rattle.plank_lex.specs.declared.symbols.Symbol.TheVariants as symbol

@@ -1,4 +1,4 @@
-use Rattle.std.proofs.Common.{ℕ, List, sym, subst}
+use Rattle.std.proofs.Common.{ℕ, List, subst}
 use Rattle.plank_top.specs.Endings.{Concludes, told, whole_text, too_long}
 use Rattle.plank_top.proofs.entry.serve.Goals as goal
 

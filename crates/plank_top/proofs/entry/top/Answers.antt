@@ -1,4 +1,4 @@
-use Rattle.std.proofs.Common.{◌≡◌, ℕ, List, sym, ◌∙◌}
+use Rattle.std.proofs.Common.{◌≡◌, sym, ◌∙◌}
 use Rattle.plank_top.specs.declared.status.Status.{Status}
 use Rattle.plank_top.specs.declared.words.Command.{Command}
 use Rattle.plank_top.specs.declared.words.Command.TheVariants.{Verify}

@@ -1,4 +1,4 @@
-use Rattle.std.proofs.Common.{refl, sym, ◌∙◌, true}
+use Rattle.std.proofs.Common.{refl, sym, ◌∙◌}
 use Rattle.plank_top.proofs.one_node.one_node.Goals as goal
 
 pub returns-then-is_form-clause-some : goal.returns-then-is_form-clause-some

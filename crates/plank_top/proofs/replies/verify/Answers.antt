@@ -1,11 +1,10 @@
-use Rattle.std.proofs.Common.{◌≡◌, ◌≢◌, ℕ, Bool, List, Result, Ok, sym, ap, ◌∙◌, subst}
+use Rattle.std.proofs.Common.{◌≡◌, ◌≢◌, ℕ, Bool, List, Ok, sym, ap, ◌∙◌, subst}
 use Rattle.std.proofs.lemmas.Result.{IfOk-weaker}
 use Rattle.plank_base.specs.declared.places.Place.{Place}
 use Rattle.plank_lex.specs.declared.tokens.Token.{Token}
 use Rattle.plank_lex.specs.Tokens.{tokens_of, kinds_of}
 use Rattle.plank_top.specs.OneNode.{one_node, IsOneNode, IsOneNodeText}
-use Rattle.plank_top.specs.Answers.{IsAnswerTo, verdict_of, later_form}
-use Rattle.plank_top.specs.Replies.{answer_in}
+use Rattle.plank_top.specs.Answers.{verdict_of, later_form}
 use Rattle.plank_top.proofs.replies.verify.Goals as goal
 
 -- a text has one list of tokens
