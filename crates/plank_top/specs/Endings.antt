@@ -1,9 +1,9 @@
 -- How a call ends, by what the source gave and what the sink took.
-use Rattle.std.specs.Prelude.{◌≡◌, ℕ, ◌<◌, List, length, take, Option}
+use Rattle.std.specs.Prelude.{◌≡◌, ℕ, ◌+◌, ◌<◌, List, length, take, Option}
 use Rattle.std.specs.Io.KnownBytes.{Appends, Keeps}
 use Rattle.plank_base.specs.declared.limits.TheConstants.{BYTES_LIMIT}
 use Rattle.plank_io.specs.Faults.{Rose}
-use Rattle.plank_io.specs.Whole.{GivesAll, GivesOver}
+use Rattle.plank_io.specs.Whole.{GivesAll, GivesOver, ConsumesUpTo}
 use Rattle.plank_top.specs.declared.status.Status.{Status}
 use Rattle.plank_top.specs.declared.status.Status.TheVariants as status
 use Rattle.plank_top.specs.declared.words.Command.{Command}
@@ -39,9 +39,10 @@ pub data Concludes (command : Command) (text : List ℕ) (sink : Told) (ended : 
 
 -- The call serves the command: it reads a whole text and ends with the answer to it; or the text is too
 -- long, and it ends with that; or the source's count of faults rose, and nothing was written; or memory
--- was refused before the text was read, and nothing was written.
+-- was refused before the text was read, and nothing was written. It never reads past the first byte that
+-- is too many.
 pub data Serves (command : Command) (source sink : Told) (ended : Status) : Type 0 where
   whole_text : (text : List ℕ) → GivesAll source.before source.after BYTES_LIMIT text → Concludes command text sink ended → Serves command source sink ended
   too_long : (text : List ℕ) → GivesOver source.before source.after BYTES_LIMIT text → Ends sink ended too_many_bytes → Serves command source sink ended
-  read_fault : ended ≡ status.ReadFault → Rose source.faults_before source.faults_after → Keeps sink.before sink.after → Serves command source sink ended
-  no_memory : ended ≡ status.OutOfMemory → Keeps sink.before sink.after → Serves command source sink ended
+  read_fault : ended ≡ status.ReadFault → Rose source.faults_before source.faults_after → ConsumesUpTo source.before source.after BYTES_LIMIT → Keeps sink.before sink.after → Serves command source sink ended
+  no_memory : ended ≡ status.OutOfMemory → ConsumesUpTo source.before source.after (BYTES_LIMIT + 1) → Keeps sink.before sink.after → Serves command source sink ended
