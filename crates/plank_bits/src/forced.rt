@@ -46,6 +46,7 @@ pub trait Forcing: Sync {
         requires method { m < method_count self.now }
         requires marks { length marks.now ≡ word_count self.now }
         ensures words { IfOk result (λ found. length found ≡ word_count self.now) }
-        ensures found { IfOk result (λ found. (k : ℕ) → IsTrue (has found k) ↔ forces self.now m (has marks.now) k) }
+        ensures found { IfOk result (λ found. (k : ℕ) → IsTrue (has found k) ↔
+            forces self.now m (has marks.now) k) }
         ensures step { steps.new ≡ steps.old + 1 };
 }

@@ -53,7 +53,8 @@ pub fn rounds<F: Forcing, L: Ledger>(
     steps: &mut Steps<L>,
 ) -> Result<MarkWords, OutOfMemory>
     ensures words { IfOk result (λ marks. length marks ≡ F.word_count forcing.now) }
-    ensures least { IfOk result (λ marks. IsLeast (F.forces forcing.now) (F.method_count forcing.now) (has marks)) }
+    ensures least { IfOk result (λ marks.
+        IsLeast (F.forces forcing.now) (F.method_count forcing.now) (has marks)) }
     ensures union { IfOk result (λ marks. (rounds : ℕ → ℕ → Bool) →
         AreRounds (F.forces forcing.now) (F.method_count forcing.now) rounds →
         IsUnion rounds (has marks)) }
