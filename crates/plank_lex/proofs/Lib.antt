@@ -1,0 +1,10 @@
+pub mod Cuts
+pub mod Found
+pub mod Front
+pub mod LoopSteps
+pub mod PlaceLemmas
+pub mod Reading
+pub mod Runs
+pub mod Spelled
+pub mod Standing
+pub mod TokenLists
