@@ -1,0 +1,52 @@
+ghost use Rattle.std.specs.Prelude.{◌≡◌, ℕ, ◌+◌, ◌*◌, ◌<◌, ◌↔◌, Bool, length, IsTrue, IfOk};
+ghost use Rattle.plank_bits.specs.Words.{has};
+ghost use Rattle.plank_bits.specs.Forced.{IsMonotone, IsBounded};
+
+use crate::counting::Steps;
+use crate::marks::MarkWords;
+use plank_base::OutOfMemory;
+use std::alloc::Global;
+use std::marker::Sync;
+use std::sync::ledger::Ledger;
+
+/// Methods that force marks where other marks are set: more marks force more, and only marks of the words
+/// are forced. So there are least marks that force nothing else.
+pub trait Forcing: Sync {
+    /// How many methods there are.
+    ghost method_count: { Self → ℕ };
+
+    /// How many words of 64 marks there are.
+    ghost word_count: { Self → ℕ };
+
+    /// That a method forces a mark, where these marks are set.
+    ghost forces: { Self → ℕ → (ℕ → Bool) → ℕ → Type 0 };
+
+    /// More marks force more.
+    ghost monotone: { (f : Self) → IsMonotone (forces f) (method_count f) };
+
+    /// Only marks of the words are forced.
+    ghost bounded: { (f : Self) → IsBounded (forces f) (method_count f) (64 * word_count f) };
+
+    /// The number of methods, which are numbered from 0.
+    fn methods(&self) -> u32
+        ensures { result ≡ method_count self.now };
+
+    /// The number of words of 64 marks.
+    fn words(&self) -> u32
+        ensures { result ≡ word_count self.now };
+
+    /// What a method forces at the marks. It is one step, also where memory is refused.
+    fn force<L: Ledger>(
+        &self,
+        alloc: Global,
+        m: u32,
+        marks: &MarkWords,
+        steps: &mut Steps<L>,
+    ) -> Result<MarkWords, OutOfMemory>
+        requires method { m < method_count self.now }
+        requires marks { length marks.now ≡ word_count self.now }
+        ensures words { IfOk result (λ found. length found ≡ word_count self.now) }
+        ensures found { IfOk result (λ found. (k : ℕ) → IsTrue (has found k) ↔
+            forces self.now m (has marks.now) k) }
+        ensures step { steps.new ≡ steps.old + 1 };
+}
