@@ -1,2 +1,1 @@
 pub mod HeldMaps
-pub mod QuietRuns
