@@ -1,6 +1,6 @@
 -- What an action makes of the heap and of its call, from the values before it. None stands for a read or a write of a
 -- field of null.
-use Rattle.std.specs.Prelude.{ℕ, Bool, true, false, List, [], ◌∷◌, length, slice_get, slice_set, Option, Some, None, option_map, option_and_then, if◌then◌else◌}
+use Rattle.std.specs.Prelude.{ℕ, ◌<◌, Bool, true, false, List, [], ◌∷◌, length, slice_get, slice_set, Option, Some, None, option_map, option_and_then, if◌then◌else◌}
 use Rattle.plank_base.specs.declared.keys.NodeId.{NodeId}
 use Rattle.plank_base.specs.declared.keys.ThreadId.{ThreadId}
 use Rattle.plank_prog.specs.Blocks.{written_node}
@@ -37,6 +37,13 @@ changed heap thread call (Write.Flag r flag to) x = with_flag x flag to
 changed heap thread call (Write.Pointer r pointer to) x = with_pointer x pointer (value_of heap call to)
 changed heap thread call (Write.TakeLock r) x = with_lock x (Some thread)
 changed heap thread call (Write.FreeLock r) x = with_lock x None
+
+-- a node has room for the field of a write
+abbrev pub HasRoom : Write → Type 0
+HasRoom (Write.Flag r flag to) = flag < 8
+HasRoom (Write.Pointer r pointer to) = pointer < 2
+HasRoom (Write.TakeLock r) = Unit {0}
+HasRoom (Write.FreeLock r) = Unit {0}
 
 -- a node after several
 abbrev pub changed_by : Heap → ThreadId → Call → List Write → Node → Node

@@ -1,6 +1,7 @@
 //! Worlds, steps and runs of the judged structures, by any number of threads.
 #![tactic(auto)]
 
+mod actions;
 mod calls;
 mod pending;
 mod steps;
