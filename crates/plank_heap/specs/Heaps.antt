@@ -1,6 +1,7 @@
 -- Heaps that fit a program, the start heap, and what a node shows to conditions.
 use Rattle.std.specs.Prelude.{◌≡◌, ℕ, ℤ, ◌<◌, Bool, List, [], ◌∷◌, length, map, slice_get, Option, Some, None, is_none, option_map}
 use Rattle.std.specs.Option.{option_flatten}
+use Rattle.plank_base.specs.declared.keys.Key.{Key}
 use Rattle.plank_base.specs.declared.keys.NodeId.{NodeId}
 use Rattle.plank_prog.specs.declared.headers.StartNode.{StartNode}
 use Rattle.plank_prog.specs.declared.headers.Header.{Header}
@@ -20,7 +21,7 @@ pub record IsClosed (heap : Heap) : Type 0 where
 
 -- what a node shows to a condition, at a walked key and whether its walk visits the node
 abbrev pub view_of_node : Node → ℤ → Bool → View
-view_of_node x j visited = view_of x.key x.flags (map (λ p. is_none p) x.pointers) j visited
+view_of_node x j visited = view_of x.key x.flags (map (λ p. is_none p) x.pointers) (Key.Num j) visited
 
 -- ---- the start heap
 

@@ -2,6 +2,8 @@
 -- node and of different fields, and locks are tested and written by lock and unlock statements alone.
 use Rattle.std.specs.Prelude.{ℕ, zero, suc, ◌+◌, Bool, true, false, not, ◌&&◌, ◌||◌, ◌==◌, nat_lt, List, [], ◌∷◌, length, if◌then◌else◌}
 use Rattle.std.specs.List.{list_any, list_all}
+use Rattle.plank_base.specs.declared.limits.TheConstants.{VARIABLES_LIMIT}
+use Rattle.plank_prog.specs.Names.{all_pairs}
 use Rattle.plank_prog.specs.declared.headers.Header.{Header}
 use Rattle.plank_prog.specs.declared.blocks.Reference.{Reference}
 use Rattle.plank_prog.specs.declared.blocks.Value.{Value}
@@ -72,14 +74,14 @@ abbrev pub block_names : Block → Reference → Bool
 block_names b Reference.Root = block_reads b Reference.Root
 block_names b (Reference.Variable v) = block_reads b (Reference.Variable v) || block_binds b v
 
--- how many of the first variables stand in a block
-abbrev pub variable_name_count : Block → ℕ → ℕ
-variable_name_count b zero = 0
-variable_name_count b (suc v) = variable_name_count b v + (if block_names b (Reference.Variable v) then 1 else 0)
+-- how many of the first so many variables stand in a block, and whether the root does
+abbrev pub first_name_count : Block → ℕ → ℕ
+first_name_count b zero = if block_names b Reference.Root then 1 else 0
+first_name_count b (suc v) = first_name_count b v + (if block_names b (Reference.Variable v) then 1 else 0)
 
--- how many names stand in a block of a method with so many variables
-abbrev pub name_count : Block → ℕ → ℕ
-name_count b variables = variable_name_count b variables + (if block_names b Reference.Root then 1 else 0)
+-- how many names stand in a block
+unfoldable pub name_count : Block → ℕ
+name_count b = first_name_count b VARIABLES_LIMIT
 
 -- ---- numbers of parts that are there
 
@@ -133,19 +135,10 @@ write_fits h variables (Write.FreeLock q) = h.has_lock && reference_fits variabl
 
 -- ---- names that are written once
 
-abbrev pub are_distinct_references : List Reference → Bool
-are_distinct_references [] = true
-are_distinct_references (q ∷ qs) = not (list_any (λ r. same_reference q r) qs) && are_distinct_references qs
-
--- no variable is bound twice
-abbrev pub bind_distinct_variables : List Bind → Bool
-bind_distinct_variables [] = true
-bind_distinct_variables (d ∷ ds) = not (list_any (λ e. e.to == d.to) ds) && bind_distinct_variables ds
-
 -- a bound variable occurs once
 abbrev pub binds_stand_alone : Block → Bool
 binds_stand_alone b =
-    bind_distinct_variables b.binds && list_all (λ d. not (block_reads b (Reference.Variable d.to))) b.binds
+    all_pairs (λ d e. not (d.to == e.to)) b.binds && not (list_any (λ d. block_reads b (Reference.Variable d.to)) b.binds)
 
 -- whether two writes are of one field
 abbrev pub same_field : Write → Write → Bool
@@ -157,11 +150,9 @@ same_field (Write.FreeLock q) (Write.TakeLock r) = true
 same_field (Write.FreeLock q) (Write.FreeLock r) = true
 same_field w v = false
 
--- the writes are of one node, and each field is written once
-abbrev pub writes_stand_apart : List Write → Bool
-writes_stand_apart [] = true
-writes_stand_apart (w ∷ ws) =
-    list_all (λ v. same_reference (written_node w) (written_node v) && not (same_field w v)) ws && writes_stand_apart ws
+-- two writes of one block are of one node, and of different fields
+abbrev pub writes_agree : Write → Write → Bool
+writes_agree w v = same_reference (written_node w) (written_node v) && not (same_field w v)
 
 -- ---- locks
 
@@ -209,4 +200,5 @@ block_parts_fit h variables b =
 abbrev pub is_lawful_block : Header → ℕ → ℕ → Block → Bool
 is_lawful_block h variables locations b =
     block_parts_fit h variables b && nat_lt b.yes locations && nat_lt b.no locations
-    && are_distinct_references b.with && binds_stand_alone b && writes_stand_apart b.writes && locks_stand_alone b
+    && all_pairs (λ q r. not (same_reference q r)) b.with && binds_stand_alone b && all_pairs writes_agree b.writes
+    && locks_stand_alone b

@@ -1,5 +1,5 @@
 -- What every header keeps: its limits, its names, its start nodes and its conditions.
-use Rattle.std.specs.Prelude.{ℕ, Bool, true, false, not, ◌&&◌, ◌==◌, ◌^◌, nat_lt, nat_le, List, length, map, Option}
+use Rattle.std.specs.Prelude.{ℕ, Bool, true, false, not, ◌&&◌, ◌==◌, ◌^◌, nat_lt, nat_le, length, Option}
 use Rattle.std.specs.Option.{option_map_or}
 use Rattle.std.specs.List.{list_all}
 use Rattle.plank_base.specs.Keys.{is_ordinary}
@@ -8,7 +8,7 @@ use Rattle.plank_prog.specs.declared.conditions.Condition.{Condition}
 use Rattle.plank_prog.specs.declared.headers.StartNode.{StartNode}
 use Rattle.plank_prog.specs.declared.headers.Header.{Header}
 use Rattle.plank_prog.specs.declared.scopes.Scope.{Scope}
-use Rattle.plank_prog.specs.Names.{is_among, are_distinct}
+use Rattle.plank_prog.specs.Names.{all_pairs, names_differ}
 use Rattle.plank_prog.specs.Scopes.{condition_fits}
 
 abbrev pub is_header_within_limits : Header → Bool
@@ -18,12 +18,13 @@ is_header_within_limits h =
 -- fields share one space of names; start nodes and keeps have one each
 abbrev pub have_distinct_fields : Header → Bool
 have_distinct_fields h =
-    are_distinct h.flags && are_distinct (map (λ p. p.name) h.pointers)
-    && list_all (λ name. not (is_among (map (λ p. p.name) h.pointers) name)) h.flags
+    all_pairs names_differ h.flags && all_pairs (λ p q. names_differ p.name q.name) h.pointers
+    && list_all (λ flag. list_all (λ p. names_differ flag p.name) h.pointers) h.flags
 
 abbrev pub have_distinct_names : Header → Bool
 have_distinct_names h =
-    have_distinct_fields h && are_distinct (map (λ n. n.name) h.nodes) && are_distinct (map (λ k. k.name) h.keeps)
+    have_distinct_fields h && all_pairs (λ n m. names_differ n.name m.name) h.nodes
+    && all_pairs (λ k l. names_differ k.name l.name) h.keeps
 
 -- a pointer is null or leads to a start node
 abbrev pub leads_within : ℕ → Option ℕ → Bool

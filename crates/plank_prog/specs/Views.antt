@@ -12,20 +12,20 @@ use Rattle.plank_prog.specs.declared.views.NodeView.{NodeView}
 use Rattle.plank_prog.specs.Conditions.{View, value}
 
 -- the key that a term stands for, at a node's key and a walked key
-abbrev pub key_of_term : Key → ℤ → KeyTerm → Key
-key_of_term key j KeyTerm.Node = key
-key_of_term key j KeyTerm.Walked = Key.Num j
-key_of_term key j KeyTerm.Min = Key.Min
-key_of_term key j KeyTerm.Max = Key.Max
+abbrev pub key_of_term : Key → Key → KeyTerm → Key
+key_of_term key walked KeyTerm.Node = key
+key_of_term key walked KeyTerm.Walked = walked
+key_of_term key walked KeyTerm.Min = Key.Min
+key_of_term key walked KeyTerm.Max = Key.Max
 
 -- whether bit i of a number is set
 abbrev pub is_bit_set : ℕ → ℕ → Bool
 is_bit_set n i = bit_at n i == 1
 
 -- the answers that a node gives, its pointers null as listed, at a walked key and whether its walk visits the node
-abbrev pub view_of : Key → ℕ → List Bool → ℤ → Bool → View
-view_of key flags nulls j visited = record {
-  at_most = λ a b. is_at_most (key_of_term key j a) (key_of_term key j b);
+abbrev pub view_of : Key → ℕ → List Bool → Key → Bool → View
+view_of key flags nulls walked visited = record {
+  at_most = λ a b. is_at_most (key_of_term key walked a) (key_of_term key walked b);
   flag = λ f. is_bit_set flags f;
   null = λ p. unwrap_or (slice_get nulls p) false;
   visited = visited;
@@ -33,7 +33,7 @@ view_of key flags nulls j visited = record {
 
 -- the value of a condition that asks for keys and flags alone
 abbrev pub value_at : Condition → Key → ℕ → ℤ → Bool
-value_at c key flags j = value (view_of key flags [] j false) c
+value_at c key flags j = value (view_of key flags [] (Key.Num j) false) c
 
 -- whether a pointer field of a node with this key and these flags admits j
 abbrev pub admits : Pointer → Key → ℕ → ℤ → Bool
@@ -54,4 +54,4 @@ is_frozen h key flags = option_map_or (λ c. value_at c key flags (pos 0)) h.fre
 -- whether a node meets the i-th keep for j
 abbrev pub meets_keep : Header → ℕ → NodeView → ℤ → Bool → Bool
 meets_keep h i node j visited =
-    option_map_or (λ k. value (view_of node.key node.flags node.nulls j visited) k.condition) (slice_get h.keeps i) false
+    option_map_or (λ k. value (view_of node.key node.flags node.nulls (Key.Num j) visited) k.condition) (slice_get h.keeps i) false
