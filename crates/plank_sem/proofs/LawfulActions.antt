@@ -35,7 +35,7 @@ location_stands : (h : Header) (methods : List Method) (call : Call) (method : M
 location_stands h methods call method l lawful called at =
     let one : is_lawful_method h method ≡ true = passes_at (is_lawful_method h) methods call.method method (and_parts _ _ lawful).1 called in
     let parts = and_parts _ _ one in
-    let room = and_parts _ _ (and_parts _ _ parts.0).0 in
+    let room = and_parts _ _ (and_parts _ _ (and_parts _ _ parts.0).0).0 in
     let here : is_lawful_location h (length method.variables) (length method.locations) l ≡ true =
       passes_at (is_lawful_location h (length method.variables) (length method.locations)) method.locations call.location l parts.1 at in
     record { method = method; called = called; variables = leb-true (length method.variables) 6 room.0; lawful = (and_parts _ _ here).0 }
