@@ -186,7 +186,7 @@ module _ (h : Header) (methods : List Method) (heap : Heap) (thread : ThreadId) 
 
 -- ---- worlds
 
-world_of : (event told : Option Event) (w after : WorldState) → stepped event w ≡ stepped told after → w ≡ after
+pub world_of : (event told : Option Event) (w after : WorldState) → stepped event w ≡ stepped told after → w ≡ after
 world_of event told w after e = cc
 
 -- a call goes on, and the others stay

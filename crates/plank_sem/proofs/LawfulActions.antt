@@ -17,11 +17,7 @@ use Rattle.plank_prog.specs.Methods.{is_lawful_action, is_lawful_location, is_la
 use Rattle.plank_sem.specs.declared.calls.Call.{Call}
 use Rattle.plank_sem.specs.Actions.{HasRoom}
 use Rattle.plank_sem.specs.Steps.{action_of}
-use Rattle.plank_sem.proofs.Lists.{passes_at, All-from_list_all}
-
-mapped : {A B : Type 0} (f : A → B) (o : Option A) (y : B) → option_map f o ≡ Some y → (x : A) × (o ≡ Some x) × (f x ≡ y)
-mapped f None y e = absurd (none-some y e)
-mapped f (Some x) y e = (x, refl, cc)
+use Rattle.plank_sem.proofs.Lists.{mapped, passes_at, All-from_list_all}
 
 -- an action that a call stands at, of its method
 pub record StandsAt (h : Header) (methods : List Method) (call : Call) (action : Action) : Type 0 where

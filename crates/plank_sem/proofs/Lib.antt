@@ -4,3 +4,8 @@ pub mod CallMaps
 pub mod LawfulActions
 pub mod NamedNodes
 pub mod FitsKept
+pub mod Sharing
+pub mod SoundHeaps
+pub mod SoundWorlds
+pub mod GhostRuns
+pub mod QuietRuns

@@ -1,6 +1,6 @@
 -- Elements of lists that are written, that grow, and that pass a test.
 use Rattle.std.proofs.Common.{◌≡◌, ◌≢◌, ℕ, zero, suc, ◌+◌, ◌<◌, ◌≤◌, ◌⊎◌, Bool, true, cond, eqb, List, [], ◌∷◌, ◌++◌, length, set, Option, Some, None, refl, sym, ap, ◌∙◌, subst, inl, inr, arith}
-use Rattle.std.specs.Prelude.{All, slice_get, ◌&&◌}
+use Rattle.std.specs.Prelude.{All, slice_get, ◌&&◌, option_map}
 use Rattle.std.specs.List.{list_all}
 use Rattle.std.specs.Option.{option_flatten}
 use Rattle.std.proofs.lemmas.Bool.{and_parts}
@@ -67,3 +67,7 @@ push_last (z ∷ zs) y = push_last zs y
 pub flattened : {X : Type 0} (o : Option (Option X)) (x : X) → option_flatten o ≡ Some x → o ≡ Some (Some x)
 flattened None x e = absurd (none-some x e)
 flattened (Some o) x e = ap (λ p. Some p) e
+
+pub mapped : {A B : Type 0} (f : A → B) (o : Option A) (y : B) → option_map f o ≡ Some y → (x : A) × (o ≡ Some x) × (f x ≡ y)
+mapped f None y e = absurd (none-some y e)
+mapped f (Some x) y e = (x, refl, cc)

@@ -5,5 +5,6 @@ pub mod Steps
 pub mod Fits
 pub mod Runs
 pub mod Kept
+pub mod Facts
 pub use Rattle.plank_hist.specs.Linearizability
 pub use Rattle.plank_hist.specs.Histories

@@ -1,7 +1,9 @@
 -- Runs: worlds that follow one another from the start, by any list of choices of any threads. The newest stands first.
-use Rattle.std.specs.Prelude.{◌≡◌, ℕ, suc, ◌==◌, List, [], ◌∷◌, ◌++◌, length, take, Option, Some, None, option_map, if◌then◌else◌}
+use Rattle.std.specs.Prelude.{◌≡◌, ◌≢◌, All, false, ℕ, suc, ◌==◌, List, [], ◌∷◌, ◌++◌, length, take, Option, Some, None, option_map, if◌then◌else◌}
 use Rattle.std.specs.Option.{option_map_or}
 use Rattle.plank_prog.specs.declared.headers.Header.{Header}
+use Rattle.plank_base.specs.declared.operations.Op.TheVariants.{Insert}
+use Rattle.plank_prog.specs.declared.methods.Action.{Action}
 use Rattle.plank_prog.specs.declared.methods.Method.{Method}
 use Rattle.plank_hist.specs.declared.events.Event.{Event}
 use Rattle.plank_hist.specs.declared.events.Event.TheVariants.{Invoke as invocation, Respond as response}
@@ -28,6 +30,10 @@ history (event ∷ told) = with_event (history told) event
 -- every run of any number of threads has a history that is linearizable to a set
 abbrev pub AllRunsLinearizable : Header → List Method → Type 0
 AllRunsLinearizable h methods = (choices : List Choice) (told : List (Option Event)) (worlds : List WorldState) → Run h methods choices told worlds → IsLinearizableSet (history told)
+
+-- no method is an insert, and each location returns false
+abbrev pub AnswersFalseWithoutInsert : List Method → Type 0
+AnswersFalseWithoutInsert methods = All (λ m. (m.op ≢ Insert) × All (λ l. l.action ≡ Action.Return false) m.locations) methods
 
 -- ---- moments: the world at moment m is the one after m steps
 

@@ -3,6 +3,7 @@
 
 mod actions;
 mod calls;
+pub mod laws;
 mod pending;
 mod steps;
 mod worlds;
