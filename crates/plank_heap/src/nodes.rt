@@ -1,7 +1,7 @@
 ghost use Rattle.std.specs.Prelude.{◌≡◌, ◌<◌, ◌^◌};
 
 use plank_base::{Key, NodeId, ThreadId};
-use plank_prog::POINTER_FIELDS;
+use plank_prog::{POINTER_FIELDS, has_flag};
 
 /// A node of a heap.
 #[derive(Clone, Copy, Debug, PartialEq, Eq)]
@@ -18,6 +18,7 @@ pub struct Node {
 
 impl Node {
     ghost use Rattle.std.specs.Prelude.{slice_get, Some};
+    ghost use Rattle.plank_prog.specs.Views.{is_bit_set};
     ghost use Rattle.plank_heap.specs.Changes.{with_flag, with_pointer, with_lock, fresh_node};
 
     /// A node of a key: no flag, no pointer, a free lock.
@@ -30,6 +31,13 @@ impl Node {
             pointers: [None; POINTER_FIELDS],
             lock: None,
         }
+    }
+
+    /// Whether the node has the flag of this number.
+    pub fn has_flag(&self, flag: u8) -> bool
+        ensures { result ≡ is_bit_set self.now.flags flag }
+    {
+        has_flag(self.flags, flag)
     }
 
     /// Where the pointer field of this number leads, or null.
