@@ -1,2 +1,11 @@
 pub mod HeldMaps
+pub mod Lists
+pub mod CallMaps
+pub mod LawfulActions
+pub mod NamedNodes
+pub mod FitsKept
+pub mod Sharing
+pub mod SoundHeaps
+pub mod SoundWorlds
+pub mod GhostRuns
 pub mod QuietRuns

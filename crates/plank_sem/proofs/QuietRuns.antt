@@ -1,25 +1,30 @@
--- The histories of runs whose methods are no insert and answer false: what the law of the empty set asks of them.
-use Rattle.std.proofs.Common.{◌≡◌, ◌≢◌, ℕ, false, ℤ, List, Option, Some, None, refl, sym, ap, ◌∙◌, subst}
-use Rattle.std.specs.Prelude.{All, slice_get}
-use Rattle.std.specs.Option.{option_map}
+-- The histories of runs whose methods are no insert and return false: what the law of the empty set asks of them.
+use Rattle.std.proofs.Common.{◌≡◌, ◌≢◌, ℕ, ◌<◌, Bool, false, ℤ, List, [], ◌∷◌, ◌++◌, Option, Some, None, map, refl, sym, ap, ◌∙◌, subst}
+use Rattle.std.specs.Prelude.{All, slice_get, option_and_then}
+use Rattle.std.specs.Option.{option_map, option_map_or}
 use Rattle.std.specs.FinMap as fin
-use Rattle.std.proofs.lemmas.Option.{slice_get_within, get_or_from_slice_get, slice_get-map}
-use Rattle.std.proofs.lemmas.List.Elements.{All-get_or, All-push, All-nil}
+use Rattle.std.proofs.lemmas.Option.{slice_get-map, option_and_then_some}
+use Rattle.std.proofs.lemmas.List.Elements.{All-push, All-nil}
 use Rattle.plank_base.specs.declared.operations.Op.{Op}
 use Rattle.plank_base.specs.declared.operations.Op.TheVariants.{Insert}
 use Rattle.plank_base.specs.declared.keys.ThreadId.{ThreadId}
+use Rattle.plank_prog.specs.declared.headers.Header.{Header}
+use Rattle.plank_prog.specs.declared.methods.Action.{Action}
+use Rattle.plank_prog.specs.declared.methods.Location.{Location}
+use Rattle.plank_prog.specs.declared.methods.Method.{Method}
 use Rattle.plank_hist.specs.declared.events.Event.{Event}
 use Rattle.plank_hist.specs.declared.events.Event.TheVariants.{Invoke as invocation, Respond as response}
-use Rattle.plank_hist.specs.Histories.{invoked, happening_of}
+use Rattle.plank_hist.specs.Histories.{Happening, invoked, responded, IsInvoked, happening_of, history_of}
 use Rattle.plank_hist.specs.EmptySet.{AnswersFalse, AnswersNoInsert}
-use Rattle.plank_sem.specs.declared.methods.Method.{Method}
 use Rattle.plank_sem.specs.declared.calls.Call.{Call}
 use Rattle.plank_sem.specs.declared.steps.Act.{Act}
 use Rattle.plank_sem.specs.declared.steps.Act.TheVariants.{Invoke, Go}
 use Rattle.plank_sem.specs.declared.steps.Choice.{Choice}
-use Rattle.plank_sem.specs.Calls.{Calls}
-use Rattle.plank_sem.specs.Steps.{stepped, begun, returned, gone_on, acted}
+use Rattle.plank_sem.specs.Worlds.{WorldState}
+use Rattle.plank_sem.specs.Actions.{After}
+use Rattle.plank_sem.specs.Steps.{Next, stepped, refused, null_read, begun, went_on, performed, action_of, gone_on, acted, next}
 use Rattle.plank_sem.specs.Runs.{Run, begins, goes_on, with_event, history, AnswersFalseWithoutInsert}
+use Rattle.plank_sem.proofs.Lists.{found_of_all, mapped}
 
 -- the event begins no insert, and answers false where it answers
 abbrev pub IsQuiet : Event → Type 0
@@ -31,12 +36,7 @@ TellsQuiet None = Unit {0}
 TellsQuiet (Some event) = IsQuiet event
 
 abbrev pub IsQuietMethod : Method → Type 0
-IsQuietMethod m = (m.answer ≡ false) × (m.op ≢ Insert)
-
--- an element that is found at a place has what all have
-pub found_of_all : {X : Type 0} (P : X → Type 0) (xs : List X) (i : ℕ) (x : X) → All P xs → slice_get xs i ≡ Some x → P x
-found_of_all P xs i x all at =
-    subst P (get_or_from_slice_get xs i x x at) (All-get_or P xs i x (slice_get_within xs i x at) all)
+IsQuietMethod m = (m.op ≢ Insert) × All (λ l. l.action ≡ Action.Return false) m.locations
 
 -- the method that is found, where one is
 abbrev FoundQuiet : Option Method → Type 0
@@ -47,27 +47,41 @@ found_quiet : (methods : List Method) (i : ℕ) (found : Option Method) → Answ
 found_quiet methods i None all at = tt
 found_quiet methods i (Some m) all at = found_of_all IsQuietMethod methods i m all at
 
-told_of : (event told : Option Event) (calls after : Calls) → stepped event calls ≡ stepped told after → event ≡ told
-told_of event told calls after e = cc
+-- every action that a call comes to returns false
+action_quiet : (methods : List Method) (call : Call) (action : Action) → AnswersFalseWithoutInsert methods → action_of methods call ≡ Some action → action ≡ Action.Return false
+action_quiet methods call action all at =
+    let found = mapped (λ (l : Location). l.action) (option_and_then (λ (m : Method). slice_get m.locations call.location) (slice_get methods call.method)) action at in
+    sym found.2 ∙ option_and_then_some (λ (m : Method). slice_get m.locations call.location) (slice_get methods call.method) found.0 found.1
+      (λ m called here. found_of_all (λ (l : Location). l.action ≡ Action.Return false) m.locations call.location found.0 (found_of_all IsQuietMethod methods call.method m all called).1 here)
 
-begun_quiet : (calls : Calls) (thread : ThreadId) (m : ℕ) (key : ℤ) (pending : Option Call) (found : Option Method) (event : Option Event) (after : Calls) → FoundQuiet found → begun calls thread m key pending found ≡ stepped event after → TellsQuiet event
-begun_quiet calls thread m key None (Some method) event after quiet e = subst TellsQuiet (told_of _ event _ after e) quiet.1
-begun_quiet calls thread m key None None event after quiet e = absurd (cc)
-begun_quiet calls thread m key (Some call) found event after quiet e = absurd (cc)
+told_of : (event told : Option Event) (w after : WorldState) → stepped event w ≡ stepped told after → event ≡ told
+told_of event told w after e = cc
 
-returned_quiet : (calls : Calls) (thread : ThreadId) (found : Option Method) (event : Option Event) (after : Calls) → FoundQuiet found → returned calls thread found ≡ stepped event after → TellsQuiet event
-returned_quiet calls thread (Some method) event after quiet e = subst TellsQuiet (told_of _ event _ after e) quiet.0
-returned_quiet calls thread None event after quiet e = absurd (cc)
+begun_quiet : (w : WorldState) (thread : ThreadId) (m : ℕ) (key : ℤ) (pending : Option Call) (found : Option Method) (event : Option Event) (after : WorldState) → FoundQuiet found → begun w thread m key pending found ≡ stepped event after → TellsQuiet event
+begun_quiet w thread m key None (Some method) event after quiet e = subst TellsQuiet (told_of _ event _ after e) quiet.0
+begun_quiet w thread m key None None event after quiet e = absurd (cc)
+begun_quiet w thread m key (Some call) found event after quiet e = absurd (cc)
 
-gone_on_quiet : (methods : List Method) (calls : Calls) (thread : ThreadId) (pending : Option Call) (event : Option Event) (after : Calls) → AnswersFalseWithoutInsert methods → gone_on methods calls thread pending ≡ stepped event after → TellsQuiet event
-gone_on_quiet methods calls thread (Some call) event after all e =
-    returned_quiet calls thread (slice_get methods call.method) event after (found_quiet methods call.method _ all refl) e
-gone_on_quiet methods calls thread None event after all e = absurd (cc)
+returned_quiet : (w : WorldState) (thread : ThreadId) (call : Call) (action : Action) (event : Option Event) (after : WorldState) → action ≡ Action.Return false → performed w thread call action ≡ stepped event after → TellsQuiet event
+returned_quiet w thread call action event after same e =
+    let step : performed w thread call (Action.Return false) ≡ stepped event after = subst (λ a. performed w thread call a ≡ stepped event after) same e in
+    let quiet : TellsQuiet (Some (response thread false)) = refl in
+    subst TellsQuiet (told_of _ event _ after step) quiet
 
-acted_quiet : (methods : List Method) (calls : Calls) (thread : ThreadId) (act : Act) (event : Option Event) (after : Calls) → AnswersFalseWithoutInsert methods → acted methods calls thread act ≡ stepped event after → TellsQuiet event
-acted_quiet methods calls thread (Invoke m key) event after all e =
-    begun_quiet calls thread m key (fin.get calls thread.0) (slice_get methods m) event after (found_quiet methods m _ all refl) e
-acted_quiet methods calls thread Go event after all e = gone_on_quiet methods calls thread (fin.get calls thread.0) event after all e
+at_quiet : (w : WorldState) (thread : ThreadId) (call : Call) (found : Option Action) (event : Option Event) (after : WorldState) → ((action : Action) → found ≡ Some action → action ≡ Action.Return false)
+    → option_map_or (performed w thread call) found refused ≡ stepped event after → TellsQuiet event
+at_quiet w thread call None event after quiet e = absurd (cc)
+at_quiet w thread call (Some action) event after quiet e = returned_quiet w thread call action event after (quiet action refl) e
+
+gone_on_quiet : (methods : List Method) (w : WorldState) (thread : ThreadId) (pending : Option Call) (event : Option Event) (after : WorldState) → AnswersFalseWithoutInsert methods → gone_on methods w thread pending ≡ stepped event after → TellsQuiet event
+gone_on_quiet methods w thread (Some call) event after all e =
+    at_quiet w thread call (action_of methods call) event after (λ action at. action_quiet methods call action all at) e
+gone_on_quiet methods w thread None event after all e = absurd (cc)
+
+acted_quiet : (methods : List Method) (w : WorldState) (thread : ThreadId) (act : Act) (event : Option Event) (after : WorldState) → AnswersFalseWithoutInsert methods → acted methods w thread act ≡ stepped event after → TellsQuiet event
+acted_quiet methods w thread (Invoke m key) event after all e =
+    begun_quiet w thread m key (fin.get w.calls thread.0) (slice_get methods m) event after (found_quiet methods m _ all refl) e
+acted_quiet methods w thread Go event after all e = gone_on_quiet methods w thread (fin.get w.calls thread.0) event after all e
 
 -- one more event that is quiet, or none
 with_event_quiet : (events : List Event) (event : Option Event) → All IsQuiet events → TellsQuiet event → All IsQuiet (with_event events event)
@@ -75,9 +89,9 @@ with_event_quiet events None all quiet = all
 with_event_quiet events (Some event) all quiet = All-push IsQuiet events event all quiet
 
 -- every event of such a run is quiet
-pub history_quiet : {methods : List Method} {choices : List Choice} {told : List (Option Event)} {world : Calls} → AnswersFalseWithoutInsert methods → Run methods choices told world → All IsQuiet (history told)
+pub history_quiet : {h : Header} {methods : List Method} {choices : List Choice} {told : List (Option Event)} {worlds : List WorldState} → AnswersFalseWithoutInsert methods → Run h methods choices told worlds → All IsQuiet (history told)
 history_quiet all begins = All-nil IsQuiet
-history_quiet {methods} all (goes_on {choices} {told} {before} run choice event after step) =
+history_quiet {h} {methods} all (goes_on {choices} {told} {before} {worlds} run choice event after step) =
     with_event_quiet (history told) event (history_quiet all run) (acted_quiet methods before choice.thread choice.act event after all step)
 
 pub quiet_answers_false : (events : List Event) → All IsQuiet events → AnswersFalse events

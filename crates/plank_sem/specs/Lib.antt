@@ -1,5 +1,10 @@
-pub mod Calls
+pub mod Worlds
+pub mod Reads
+pub mod Actions
 pub mod Steps
+pub mod Fits
 pub mod Runs
+pub mod Kept
+pub mod Facts
 pub use Rattle.plank_hist.specs.Linearizability
 pub use Rattle.plank_hist.specs.Histories

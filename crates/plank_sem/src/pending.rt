@@ -1,4 +1,4 @@
-ghost use Rattle.std.specs.Prelude.{◌≡◌, OnOk, OnErr};
+ghost use Rattle.std.specs.Prelude.{◌≡◌, OnOk, OnErr, IsSome};
 ghost use Rattle.std.specs.FinMap as map;
 
 use plank_base::{OutOfMemory, ThreadId};
@@ -49,6 +49,16 @@ impl<C: Copy> Pending<C> {
     {
         self.held.insert(thread.0, call)?;
         Ok(())
+    }
+
+    /// From now on the thread, which has something pending, has this pending; takes no memory.
+    pub fn replace(&mut self, thread: ThreadId, call: C)
+        requires { IsSome (map.get self.old thread.0) }
+        ensures { self.new ≡ map.insert self.old thread.0 call }
+    {
+        if let Some(held) = self.held.get_mut(&thread.0) {
+            *held = call;
+        }
     }
 
     /// From now on the thread has nothing pending; takes no memory.

@@ -29,6 +29,8 @@ pub struct Stepped {
 pub enum StepFault {
     /// `Go` of a thread without a call, or `Invoke` by a thread with one or of no method.
     NoSuchThread,
+    /// The thread's block reads or writes a field of null.
+    NullRead,
     /// Memory was refused.
     OutOfMemory,
 }

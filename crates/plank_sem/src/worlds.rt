@@ -1,83 +1,102 @@
-ghost use Rattle.std.specs.Prelude.{◌≡◌, IfOk, OnErr, OnOk};
-ghost use Rattle.std.specs.Option.{option_map};
+ghost use Rattle.std.specs.Prelude.{◌≡◌, ◌<◌, ◌-◌, ◌^◌, length, Some, None, IfOk, IfErr, IsSome, All, OnOk, OnErr};
+ghost use Rattle.std.specs.Option.{option_map, option_copied};
+ghost use Rattle.plank_sem.specs.Steps.{action_of};
 ghost use Rattle.std.specs.FinMap as map;
-ghost use Rattle.plank_sem.specs.Steps.{acted, next, stepped, refused};
 
-use crate::calls::Call;
-use crate::methods::Method;
+use crate::calls::{Call, VARIABLES};
 use crate::pending::Pending;
 use crate::steps::{Act, Choice, StepFault, Stepped};
 use plank_base::ThreadId;
+use plank_heap::Heap;
 use plank_hist::Event;
-use std::alloc::Global;
+use plank_prog::{Action, Block, Program, Value};
 use std::marker::Model;
 
-/// A world: the pending call of each thread that has one. Contracts see it as the finite map of
-/// these calls.
+/// A world: a heap, and the pending call of each thread that has one.
 #[derive(Drop)]
 pub struct World {
+    heap: Heap,
     calls: Pending<Call>,
 }
 
 impl Model for World {
-    ghost use Rattle.plank_sem.specs.Calls.{Calls, calls_code};
+    ghost use Rattle.plank_sem.specs.Worlds.{WorldState, world_code};
 
-    ghost Value = { Calls };
+    ghost Value = { WorldState };
 
-    ghost coded = { calls_code };
+    ghost coded = { world_code };
 
-    ghost view = { λ w. w.calls };
+    ghost view = { λ w. record { heap = w.heap; calls = w.calls } };
 }
 
 impl World {
-    /// The world before any call; takes no memory.
-    pub fn start(alloc: Global) -> World
-        ensures { result ≡ map.empty }
-    {
-        World {
-            calls: Pending::new(alloc),
-        }
-    }
+    ghost use Rattle.plank_sem.specs.Steps.{next, stepped, refused, null_read};
+    ghost use Rattle.plank_sem.specs.Fits.{Fits};
 
-    /// Makes one step. After a refusal the world is unchanged.
-    pub fn step(&mut self, methods: &[Method], choice: Choice) -> Result<Stepped, StepFault>
-        ensures made { IfOk result (λ s. next methods.now self.old choice ≡ stepped s.event self.new) }
-        ensures none { result ≡ Err StepFault.NoSuchThread → next methods.now self.old choice ≡ refused }
-        ensures err { OnErr result (self.new ≡ self.old) }
+    pub fn heap(&self) -> &Heap
+        ensures { result.now ≡ self.now.heap }
     {
-        match choice.act {
-            Act::Invoke { method, key } => self.invoke(methods, choice.thread, method, key),
-            Act::Go => self.go(methods, choice.thread),
-        }
+        &self.heap
     }
 
     /// The method and the location of the thread's pending call.
     pub fn at(&self, thread: ThreadId) -> Option<(u32, u32)>
-        ensures { result ≡ option_map (λ c. (c.method, 0)) (map.get self.now thread.0) }
+        ensures { result ≡ option_map (λ c. (c.method, c.location)) (map.get self.now.calls thread.0) }
     {
         match self.calls.get(thread) {
-            Some(call) => Some((call.method, 0)),
+            Some(call) => Some((call.method, call.location)),
             None => None,
         }
+    }
+
+    /// Makes one step. After a refusal the world is unchanged.
+    pub fn step(&mut self, program: &Program, choice: Choice) -> Result<Stepped, StepFault>
+        requires few { length self.old.heap.nodes < 2 ^ 32 - 1 }
+        requires fitting { Fits program.now.methods self.old }
+        ensures made { IfOk result (λ s. next program.now.methods self.old choice ≡ stepped s.event self.new) }
+        ensures none { result ≡ Err StepFault.NoSuchThread → next program.now.methods self.old choice ≡ refused }
+        ensures null { result ≡ Err StepFault.NullRead → next program.now.methods self.old choice ≡ null_read }
+        ensures err { OnErr result (self.new ≡ self.old) }
+        ensures fits { Fits program.now.methods self.new }
+    {
+        self.act(program, choice.thread, choice.act)
     }
 }
 
 impl World {
+    ghost use Rattle.plank_sem.specs.Steps.{begun, performed, gone_on, acted, stepped, refused, null_read};
+    ghost use Rattle.plank_sem.specs.Actions.{HasRoom};
+    ghost use Rattle.plank_sem.specs.Fits.{Fits};
+
+    fn act(&mut self, program: &Program, thread: ThreadId, act: Act) -> Result<Stepped, StepFault>
+        requires few { length self.old.heap.nodes < 2 ^ 32 - 1 }
+        ensures made { IfOk result (λ s. acted program.now.methods self.old thread act ≡ stepped s.event self.new) }
+        ensures none { result ≡ Err StepFault.NoSuchThread → acted program.now.methods self.old thread act ≡ refused }
+        ensures null { result ≡ Err StepFault.NullRead → acted program.now.methods self.old thread act ≡ null_read }
+        ensures err { OnErr result (self.new ≡ self.old) }
+    {
+        match act {
+            Act::Invoke { method, key } => self.invoke(program, thread, method, key),
+            Act::Go => self.go(program, thread),
+        }
+    }
+
     fn invoke(
         &mut self,
-        methods: &[Method],
+        program: &Program,
         thread: ThreadId,
         method: u32,
         key: i64,
     ) -> Result<Stepped, StepFault>
-        ensures made { IfOk result (λ s. acted methods.now self.old thread (Act.Invoke method key) ≡ stepped s.event self.new) }
-        ensures none { result ≡ Err StepFault.NoSuchThread → acted methods.now self.old thread (Act.Invoke method key) ≡ refused }
+        ensures made { IfOk result (λ s. acted program.now.methods self.old thread (Act.Invoke method key) ≡ stepped s.event self.new) }
+        ensures none { result ≡ Err StepFault.NoSuchThread → acted program.now.methods self.old thread (Act.Invoke method key) ≡ refused }
+        ensures null { result ≡ Err StepFault.NullRead → acted program.now.methods self.old thread (Act.Invoke method key) ≡ null_read }
         ensures err { OnErr result (self.new ≡ self.old) }
     {
-        match (self.calls.get(thread), methods.get(method as usize)) {
+        match (self.calls.get(thread), program.methods.as_slice().get(method as usize)) {
             (None, Some(called)) => {
                 let op = called.op;
-                match self.calls.insert(thread, Call { method, key }) {
+                match self.calls.insert(thread, Call::fresh(method, key)) {
                     Ok(()) => Ok(Stepped {
                         event: Some(Event::Invoke { thread, op, key }),
                     }),
@@ -88,21 +107,89 @@ impl World {
         }
     }
 
-    fn go(&mut self, methods: &[Method], thread: ThreadId) -> Result<Stepped, StepFault>
-        ensures made { IfOk result (λ s. acted methods.now self.old thread Act.Go ≡ stepped s.event self.new) }
-        ensures none { result ≡ Err StepFault.NoSuchThread → acted methods.now self.old thread Act.Go ≡ refused }
+    fn go(&mut self, program: &Program, thread: ThreadId) -> Result<Stepped, StepFault>
+        requires few { length self.old.heap.nodes < 2 ^ 32 - 1 }
+        ensures made { IfOk result (λ s. acted program.now.methods self.old thread Act.Go ≡ stepped s.event self.new) }
+        ensures none { result ≡ Err StepFault.NoSuchThread → acted program.now.methods self.old thread Act.Go ≡ refused }
+        ensures null { result ≡ Err StepFault.NullRead → acted program.now.methods self.old thread Act.Go ≡ null_read }
         ensures err { OnErr result (self.new ≡ self.old) }
     {
         let Some(call) = self.calls.get(thread) else {
             return Err(StepFault::NoSuchThread);
         };
-        let Some(method) = methods.get(call.method as usize) else {
-            return Err(StepFault::NoSuchThread);
-        };
-        let answer = method.answer;
+        match action_at(program, &call) {
+            Some(Action::Block(block)) => self.run_block(thread, &call, block),
+            Some(Action::Copy { to, from, next }) => Ok(self.copy(thread, &call, *to, *from, *next)),
+            Some(Action::New { to, next }) => self.allocate(thread, &call, *to, *next),
+            Some(Action::Return(answer)) => Ok(self.answer(thread, &call, *answer)),
+            None => Err(StepFault::NoSuchThread),
+        }
+    }
+
+    fn run_block(&mut self, thread: ThreadId, call: &Call, block: &Block) -> Result<Stepped, StepFault>
+        requires pending { IsSome (map.get self.old.calls thread.0) }
+        requires binds { All (λ d. d.to < VARIABLES) block.now.binds }
+        requires writes { All HasRoom block.now.writes }
+        ensures made { IfOk result (λ s. performed self.old thread call.now (Action.Block block.now) ≡ stepped s.event self.new) }
+        ensures null { OnErr result (performed self.old thread call.now (Action.Block block.now) ≡ null_read) }
+        ensures cause { IfErr result (λ e. e ≡ StepFault.NullRead) }
+        ensures err { OnErr result (self.new ≡ self.old) }
+    {
+        match call.run(&mut self.heap, thread, block) {
+            Some(next) => {
+                self.calls.replace(thread, next);
+                Ok(Stepped { event: None })
+            }
+            None => Err(StepFault::NullRead),
+        }
+    }
+
+    fn copy(&mut self, thread: ThreadId, call: &Call, to: u8, from: Value, next: u32) -> Stepped
+        requires pending { IsSome (map.get self.old.calls thread.0) }
+        requires variable { to < VARIABLES }
+        ensures { performed self.old thread call.now (Action.Copy to from next) ≡ stepped result.event self.new }
+    {
+        let next = call.copy(&self.heap, to, from, next);
+        self.calls.replace(thread, next);
+        Stepped { event: None }
+    }
+
+    fn allocate(&mut self, thread: ThreadId, call: &Call, to: u8, next: u32) -> Result<Stepped, StepFault>
+        requires few { length self.old.heap.nodes < 2 ^ 32 - 1 }
+        requires pending { IsSome (map.get self.old.calls thread.0) }
+        requires variable { to < VARIABLES }
+        ensures made { IfOk result (λ s. performed self.old thread call.now (Action.New to next) ≡ stepped s.event self.new) }
+        ensures cause { IfErr result (λ e. e ≡ StepFault.OutOfMemory) }
+        ensures err { OnErr result (self.new ≡ self.old) }
+    {
+        match call.allocate(&mut self.heap, to, next) {
+            Ok(next) => {
+                self.calls.replace(thread, next);
+                Ok(Stepped { event: None })
+            }
+            Err(_) => Err(StepFault::OutOfMemory),
+        }
+    }
+
+    fn answer(&mut self, thread: ThreadId, call: &Call, answer: bool) -> Stepped
+        ensures { performed self.old thread call.now (Action.Return answer) ≡ stepped result.event self.new }
+    {
         self.calls.remove(thread);
-        Ok(Stepped {
+        Stepped {
             event: Some(Event::Respond { thread, answer }),
-        })
+        }
+    }
+}
+
+// The action at the location of a call.
+fn action_at<'a>(program: &'a Program, call: &Call) -> Option<&'a Action>
+    ensures { option_copied result ≡ action_of program.now.methods call.now }
+{
+    match program.methods.as_slice().get(call.method as usize) {
+        Some(method) => match method.locations.as_slice().get(call.location as usize) {
+            Some(location) => Some(&location.action),
+            None => None,
+        },
+        None => None,
     }
 }

@@ -1,0 +1,29 @@
+-- Which fields and keys a condition may ask for, where it stands.
+use Rattle.std.specs.Prelude.{ℕ, Bool, true, ◌&&◌, nat_lt}
+use Rattle.plank_prog.specs.declared.conditions.KeyTerm.{KeyTerm}
+use Rattle.plank_prog.specs.declared.conditions.Condition.{Condition}
+use Rattle.plank_prog.specs.declared.conditions.Condition.TheOpen.{Condition-F}
+use Rattle.plank_prog.specs.declared.conditions.Condition.TheFolds.{fold-Condition}
+use Rattle.plank_prog.specs.declared.scopes.Scope.{Scope}
+use Rattle.plank_prog.specs.Conditions.{all_true}
+
+abbrev pub term_fits : Scope → KeyTerm → Bool
+term_fits s KeyTerm.Node = true
+term_fits s KeyTerm.Walked = s.walked
+term_fits s KeyTerm.Min = true
+term_fits s KeyTerm.Max = true
+
+-- one layer of a condition, with whether its parts fit
+abbrev pub fits_step : Scope → Condition-F Bool → Bool
+fits_step s (Condition-F.Constant b) = true
+fits_step s (Condition-F.Flag f set) = nat_lt f s.flags
+fits_step s (Condition-F.Flags f g equal) = nat_lt f s.flags && nat_lt g s.flags
+fits_step s (Condition-F.Pointer p null) = nat_lt p s.pointers
+fits_step s (Condition-F.Keys a relation b) = term_fits s a && term_fits s b
+fits_step s Condition-F.Visited = s.visited
+fits_step s (Condition-F.All bs) = all_true bs
+fits_step s (Condition-F.Any bs) = all_true bs
+
+-- whether a condition asks for no more than its scope gives
+abbrev pub condition_fits : Scope → Condition → Bool
+condition_fits s = fold-Condition Bool (fits_step s)

@@ -1,0 +1,48 @@
+-- Facts of every world of every run, by the steps alone: what nodes are named, pointed to and shared, and what never changes.
+use Rattle.std.specs.Prelude.{◌≡◌, ◌⊎◌, ℕ, ◌<◌, ℤ, List, length, slice_get, Option, Some}
+use Rattle.std.specs.FinMap.{get}
+use Rattle.plank_base.specs.declared.keys.NodeId.{NodeId}
+use Rattle.plank_prog.specs.declared.headers.Header.{Header}
+use Rattle.plank_heap.specs.declared.nodes.Node.{Node}
+use Rattle.plank_heap.specs.declared.heaps.Heap.{Heap}
+use Rattle.plank_heap.specs.Heaps.{IsClosed, start_heap}
+use Rattle.plank_heap.specs.Walks.{WalkVisits}
+use Rattle.plank_sem.specs.declared.calls.Call.{Call}
+use Rattle.plank_sem.specs.Fits.{AllNamed}
+use Rattle.plank_sem.specs.Kept.{Kept, GhostWorld, IsShared, IsOwn}
+
+-- every node is still there, with its key
+abbrev pub KeysStay : Heap → Heap → Type 0
+KeysStay before after = (x : ℕ) (node : Node) → slice_get before.nodes x ≡ Some node → (later : Node) × (slice_get after.nodes x ≡ Some later) × (later.key ≡ node.key)
+
+-- a call may name a node: it is shared, or it is the thread's own and this very call allocated it
+abbrev pub IsUsable : List (Option ℕ) → List ℕ → ℕ → ℕ → Type 0
+IsUsable owners allocated thread x = IsShared owners x ⊎ (IsOwn owners x thread × ((k : ℕ) × (slice_get allocated k ≡ Some x)))
+
+-- node y points to node z
+abbrev pub PointsTo : Heap → ℕ → ℕ → Type 0
+PointsTo heap y z = (node : Node) × (f : ℕ) × (to : NodeId) × (slice_get heap.nodes y ≡ Some node) × (slice_get node.pointers f ≡ Some (Some to)) × (to.0 ≡ z)
+
+pub record IsSound (h : Header) (g : GhostWorld) : Type 0 where
+  -- the root and each pointer that is not null name nodes, and so does each variable of a call
+  pub closed : IsClosed g.world.heap
+  pub variables_within : (thread : ℕ) (call : Call) → get g.world.calls thread ≡ Some call → AllNamed (λ x. x < length g.world.heap.nodes) call.variables
+  -- each node is shared, or a thread's own
+  pub owned : length g.kept.owners ≡ length g.world.heap.nodes
+  -- the root is that of the start, and start nodes have their keys
+  pub same_root : g.world.heap.root ≡ (start_heap h).root
+  pub start_keys : KeysStay (start_heap h) g.world.heap
+  -- a node that is not shared is not the root, and no other node points to it
+  pub root_is_shared : IsShared g.kept.owners g.world.heap.root.0
+  pub own_is_apart : (x thread y : ℕ) → IsOwn g.kept.owners x thread → PointsTo g.world.heap y x → y ≡ x
+  -- a variable of a call names a shared node, or one of the thread's own that this very call allocated
+  pub variables : (thread : ℕ) (call : Call) → get g.world.calls thread ≡ Some call → AllNamed (IsUsable g.kept.owners (g.kept.allocated thread) thread) call.variables
+  -- pointers of shared nodes lead to shared nodes, and walks visit shared nodes alone
+  pub shared_leads : (x y : ℕ) → IsShared g.kept.owners x → PointsTo g.world.heap x y → IsShared g.kept.owners y
+  pub visited_is_shared : (j : ℤ) (x : ℕ) → WalkVisits h g.world.heap j x → IsShared g.kept.owners x
+
+-- what stays from an earlier world of a run to a later one
+pub record Stays (before after : GhostWorld) : Type 0 where
+  pub same_root : after.world.heap.root ≡ before.world.heap.root
+  pub keys : KeysStay before.world.heap after.world.heap
+  pub shared : (x : ℕ) → IsShared before.kept.owners x → IsShared after.kept.owners x
