@@ -1,5 +1,6 @@
 -- Texts of one node with one method that is one return: the form that is judged so far.
-use Rattle.std.specs.Prelude.{◌≡◌, ℕ, Bool, true, false, List, [], ◌∷◌, map, Some, Ok, slice_get, codes}
+use Rattle.std.specs.Prelude.{◌≡◌, ℕ, Bool, true, false, List, [], ◌∷◌, map, Some, None, Ok, slice_get, codes}
+use Rattle.plank_base.specs.declared.keys.Key.{Key}
 use Rattle.plank_base.specs.declared.places.Place.{Place}
 use Rattle.plank_base.specs.declared.operations.Op.TheVariants.{Contains}
 use Rattle.plank_lex.specs.declared.symbols.Symbol.TheVariants as symbol
@@ -8,7 +9,10 @@ use Rattle.plank_lex.specs.declared.tokens.Token.{Token}
 use Rattle.plank_lex.specs.declared.tokens.TokenKind.{TokenKind}
 use Rattle.plank_lex.specs.declared.tokens.TokenKind.TheVariants.{Symbol, Reserved, Name, End}
 use Rattle.plank_lex.specs.Tokens.{tokens_of, kinds_of}
-use Rattle.plank_sem.specs.declared.methods.Method.{Method}
+use Rattle.plank_prog.specs.declared.conditions.Condition.{Condition}
+use Rattle.plank_prog.specs.declared.headers.Header.{Header}
+use Rattle.plank_prog.specs.declared.methods.Action.{Action}
+use Rattle.plank_prog.specs.declared.methods.Method.{Method}
 use Rattle.plank_sem.specs.Runs.{AllRunsLinearizable}
 
 -- the word of a truth value
@@ -43,9 +47,28 @@ pub record IsOneNodeText (text : List ℕ) (structure : List ℕ) (answer : Bool
   pub lexed : tokens_of text ≡ Ok tokens
   pub form : IsOneNode tokens structure answer place
 
--- the methods that such a text declares
-abbrev pub methods_of : Bool → List Method
-methods_of answer = (record { op = Contains; answer = answer }) ∷ []
+-- the header of such a text: one node with the least key and no fields, and a set without keys
+abbrev pub header_of : List ℕ → Header
+header_of node = record {
+  flags = [];
+  pointers = [];
+  has_lock = false;
+  nodes = (record { name = node; key = Key.Min; flags = 0; pointers = [] }) ∷ [];
+  root = 0;
+  holds = Condition.Constant false;
+  keeps = [];
+  freeze = None;
+}
+
+-- its methods: one, which returns at once
+abbrev pub methods_of : List ℕ → Bool → Place → List Method
+methods_of argument answer place = (record {
+  name = codes "contains";
+  op = Contains;
+  arg = argument;
+  variables = [];
+  locations = (record { place = place; action = Action.Return answer }) ∷ [];
+}) ∷ []
 
 -- the text is of a form that is judged, and every run of any number of threads that call its methods
 -- has a history that is linearizable to a set
@@ -53,5 +76,5 @@ pub record IsSound (text : List ℕ) : Type 0 where
   pub structure : List ℕ
   pub answer : Bool
   pub place : Place
-  pub form : IsOneNodeText text structure answer place
-  pub linearizable : AllRunsLinearizable (methods_of answer)
+  pub is_judged : IsOneNodeText text structure answer place
+  pub linearizable : AllRunsLinearizable (header_of is_judged.form.node) (methods_of is_judged.form.argument answer place)
