@@ -1,6 +1,6 @@
 -- Each term is at most itself, and nothing else is known.
 use Rattle.plank_order.proofs.RowLemmas.{relates-zeros}
-use Rattle.plank_order.proofs.OrderLaws.{closed_diagonal, nothing_known}
+use Rattle.plank_order.proofs.OrderLaws.{closed_diagonal}
 use Rattle.plank_order.proofs.orders.Preorder.new.Goals as goal
 
 pub invariant_of-result : goal.invariant_of-result
