@@ -7,11 +7,11 @@
 ghost use Rattle.std.specs.Prelude.{◌≡◌, ◌+◌, ◌<◌, ◌≤◌};
 
 use plank_order::{Clash, Preorder, TERMS_LIMIT, Term};
-use std::env;
-use std::io;
 use std::time::Instant;
+use std::{env, io};
 
 const ROUNDS: u32 = 100_000;
+
 const RANDOM_ASSUMPTIONS: u32 = 40;
 
 // Marsaglia's xorshift generator of 64 bits.
