@@ -3,7 +3,7 @@ use Rattle.std.proofs.Common.{◌≡◌, ◌⊎◌, ◌↔◌, ℕ, ◌+◌, ◌
 use Rattle.std.proofs.lemmas.Bool.{cases_lt, eqb-true, eq-eqb, false≢true, false_from_ne_true, or_cases, or_left, or_right, and_parts, and_from, OnTrue_from, OnFalse_from}
 use Rattle.std.specs.Bool.{OnTrue, OnFalse}
 use Rattle.plank_order.specs.Rows.{relates}
-use Rattle.plank_order.specs.Orders.{OrderFacts, Meets, AreClosed, AreSameOrder, HasOneOrder, HasTwoOrders}
+use Rattle.plank_order.specs.Orders.{OrderFacts, Meets, AreClosed, HasOneOrder, HasTwoOrders}
 use Rattle.plank_order.proofs.RowLemmas.{count_below, count_below-le, count_below-within, count_below-grows, relates-past}
 
 -- a rank with a whole part moved up: the part's numbers that are in a part of it get one rank, and the others a higher one

@@ -1,5 +1,5 @@
 -- What is known of the order of terms: the orders that meet it, and knowledge that says all that follows from it.
-use Rattle.std.specs.Prelude.{◌≡◌, ◌↔◌, ℕ, ◌<◌, ◌≤◌, true, false, List}
+use Rattle.std.specs.Prelude.{◌≡◌, ◌↔◌, ℕ, ◌<◌, ◌≤◌, true, List}
 use Rattle.plank_order.specs.Rows.{relates}
 
 -- known facts of so many terms: a is at most b, and a is less than b

@@ -54,6 +54,13 @@ impl Preorder {
         }
     }
 
+    /// The number of terms.
+    pub fn terms(&self) -> u32
+        ensures { result ≡ self.now.terms }
+    {
+        self.terms
+    }
+
     /// Whether a is less than b in every order that meets what was assumed.
     pub fn less(&self, a: Term, b: Term) -> bool
         requires first { a.0 < self.now.terms }

@@ -5,13 +5,17 @@ ghost use Rattle.plank_order.specs.Partitions.{Meets};
 
 use crate::clashes::Clash;
 use crate::rows;
+use plank_base::NAMES_LIMIT;
 use std::marker::Model;
+
+// A partition has room for the names of a picture.
+const _: () = prove!(NAMES_LIMIT == 16);
 
 /// The number of a node name, from 0.
 #[derive(Clone, Copy, Debug, PartialEq, Eq, PartialOrd, Ord)]
 pub struct Name(pub u32);
 
-/// What is known of the equality of at most 16 node names. It is copied, and no call takes memory.
+/// What is known of the equality of at most 16 node names, as many as a picture has. It is copied, and no call takes memory.
 ///
 /// Contracts see the known facts. A partition of the names is a group for each name, and `Meets` says that
 /// the facts hold of the groups.
@@ -48,6 +52,13 @@ impl Partition {
             apart: [0; 16],
             names,
         }
+    }
+
+    /// The number of names.
+    pub fn names(&self) -> u32
+        ensures { result ≡ self.now.names }
+    {
+        self.names
     }
 
     /// Whether a and b are the same in every partition that meets what was assumed.

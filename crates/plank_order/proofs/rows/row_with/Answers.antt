@@ -1,6 +1,6 @@
 -- A row with more numbers, or as it was.
-use Rattle.std.proofs.Common.{◌≡◌, true, false, sym, ◌∙◌}
-use Rattle.plank_order.proofs.RowLemmas.{is_set-or, with_more, with_none}
+use Rattle.std.proofs.Common.{sym, ◌∙◌}
+use Rattle.plank_order.proofs.RowLemmas.{is_set-or, with_more}
 use Rattle.plank_order.proofs.rows.row_with.Goals as goal
 
 pub returns-then-bit_is_set : goal.returns-then-bit_is_set

@@ -1,8 +1,7 @@
 -- The facts stay closed, and the orders that meet them are those that meet the assumption too.
-use Rattle.std.proofs.Common.{◌≡◌, ℕ, ◌+◌, ◌≤◌, ◌↔◌, ◌&&◌, ◌||◌, Bool, false, sym, ◌∙◌, ap, subst}
-use Rattle.plank_order.specs.Rows.{relates}
+use Rattle.std.proofs.Common.{ℕ, ◌≤◌, ◌↔◌, sym, ◌∙◌, subst}
 use Rattle.plank_order.proofs.RowLemmas.{or_after}
-use Rattle.plank_order.specs.Orders.{OrderFacts, Meets, AreClosed}
+use Rattle.plank_order.specs.Orders.{OrderFacts, Meets}
 use Rattle.plank_order.proofs.OrderLaws.{term_small, closed_with_at_most, meets_with_at_most, order}
 use Rattle.plank_order.proofs.orders.Preorder.assume_at_most.Goals as goal
 

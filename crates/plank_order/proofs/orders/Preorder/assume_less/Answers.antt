@@ -1,7 +1,6 @@
 -- The facts stay closed, and the orders that meet them are those that meet the assumption too.
-use Rattle.std.proofs.Common.{◌≡◌, ℕ, ◌<◌, ◌↔◌, false, sym, subst}
-use Rattle.plank_order.specs.Rows.{relates}
-use Rattle.plank_order.specs.Orders.{OrderFacts, Meets, AreClosed}
+use Rattle.std.proofs.Common.{ℕ, ◌<◌, ◌↔◌, sym, subst}
+use Rattle.plank_order.specs.Orders.{OrderFacts, Meets}
 use Rattle.plank_order.proofs.OrderLaws.{term_small, closed_with_less, meets_with_less, order}
 use Rattle.plank_order.proofs.orders.Preorder.assume_less.Goals as goal
 

@@ -1,5 +1,5 @@
 -- One order where each two terms are placed, and two orders where some two are not.
-use Rattle.std.proofs.Common.{◌≡◌, ℕ, ◌<◌, ◌≤◌, arith, ap, subst}
+use Rattle.std.proofs.Common.{arith, subst}
 use Rattle.plank_order.specs.Orders.{HasOneOrder, HasTwoOrders}
 use Rattle.plank_order.proofs.OrderLaws.{one_order, two_orders}
 use Rattle.plank_order.proofs.orders.Preorder.is_total.Goals as goal

@@ -1,5 +1,5 @@
 -- The facts stay closed, and the partitions that meet them are those that meet the assumption too.
-use Rattle.std.proofs.Common.{◌≡◌, ◌≢◌, ℕ, ◌↔◌, sym, ◌∙◌, subst}
+use Rattle.std.proofs.Common.{◌≢◌, ℕ, ◌↔◌, sym, ◌∙◌, subst}
 use Rattle.plank_order.specs.Partitions.{PartitionFacts, Meets}
 use Rattle.plank_order.proofs.RowLemmas.{or_after}
 use Rattle.plank_order.proofs.PartitionLaws.{name_small, closed_with_apart, meets_with_apart, partition}
