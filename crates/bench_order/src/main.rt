@@ -1,7 +1,8 @@
-//! Times assumptions on the order of 24 terms: 40 random ones and then the 23 links of the chain, again and again.
+//! Times assumptions on the order of 24 terms: 40 random ones and then the 23 links of the chain,
+//! again and again.
 //!
-//! Prints how much was known on the way, which is the same every time; with the argument `times` also the
-//! nanoseconds of an assumption. `bench/order/run` compares it with the same loop in Rust.
+//! Prints how much was known on the way, which is the same every time; with the argument `times`
+//! also the nanoseconds of an assumption. `bench/order/run` compares it with the same loop in Rust.
 #![tactic(auto)]
 
 ghost use Rattle.std.specs.Prelude.{◌≡◌, ◌+◌, ◌<◌, ◌≤◌};

@@ -1,4 +1,4 @@
--- What is known of the order of terms: the orders that meet it, and knowledge that says all that follows from it.
+-- What is known of the order of terms, the orders that meet it, and facts that have all that follows.
 use Rattle.std.specs.Prelude.{◌≡◌, ◌↔◌, ℕ, ◌<◌, ◌≤◌, true, List}
 use Rattle.plank_order.specs.Rows.{relates}
 
@@ -8,7 +8,7 @@ pub record OrderFacts : Type 0 where
   pub at_most : List ℕ
   pub less : List ℕ
 
--- an order in which any two terms are comparable is a rank for each term; it meets the facts where each holds of the ranks
+-- an order in which any two terms are comparable is a rank for each term, and each fact holds of the ranks
 pub record Meets (k : OrderFacts) (rank : ℕ → ℕ) : Type 0 where
   pub at_most : (a b : ℕ) → relates k.at_most a b ≡ true → rank a ≤ rank b
   pub less : (a b : ℕ) → relates k.less a b ≡ true → rank a < rank b

@@ -1,4 +1,4 @@
--- What is known of the equality of names: the partitions that meet it, and knowledge that says all that follows from it.
+-- What is known of the equality of names, the partitions that meet it, and facts that have all that follows.
 use Rattle.std.specs.Prelude.{◌≡◌, ◌≢◌, ℕ, ◌<◌, ◌≤◌, true, List}
 use Rattle.plank_order.specs.Rows.{relates}
 

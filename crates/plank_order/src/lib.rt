@@ -1,7 +1,7 @@
 //! What is known of the order of key terms and of the equality of node names, without memory.
 //!
-//! `Preorder` and `Partition` grow by assumptions. Each answers what every order, or every partition, that
-//! meets the assumptions has, and refuses exactly the assumptions that none meets.
+//! `Preorder` and `Partition` grow by assumptions. Each answers what every order, or every
+//! partition, that meets the assumptions has, and refuses exactly the assumptions that none meets.
 #![tactic(auto)]
 
 mod clashes;

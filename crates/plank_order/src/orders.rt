@@ -17,8 +17,11 @@ pub struct Term(pub u32);
 
 /// What is known of the order of at most 24 key terms. It is copied, and no call takes memory.
 ///
-/// Contracts see the known facts. An order of the terms in which any two are comparable is a rank for each
-/// term, and `Meets` says that the facts hold of the ranks.
+/// Contracts see the known facts. An order of the terms in which any two are comparable is a rank
+/// for each term, and `Meets` says that the facts hold of the ranks.
+///
+/// The facts are kept closed: each that follows from others is there, found as an assumption is
+/// made by a pass over the rows of bits, as Ibaraki and Katoh (1983) keep a transitive closure.
 #[derive(Clone, Copy, Debug, PartialEq, Eq)]
 pub struct Preorder {
     at_most: [u32; 24],
@@ -33,7 +36,8 @@ impl Model for Preorder {
 
     ghost view = { λ s. record { terms = s.terms; at_most = s.at_most; less = s.less } };
 
-    ghost invariant = { λ s. AreClosed (record { terms = s.terms; at_most = s.at_most; less = s.less }) };
+    ghost invariant = { λ s.
+        AreClosed (record { terms = s.terms; at_most = s.at_most; less = s.less }) };
 
     ghost inverse = { λ k. record { at_most = k.at_most; less = k.less; terms = k.terms } };
 }
@@ -66,7 +70,8 @@ impl Preorder {
         requires first { a.0 < self.now.terms }
         requires second { b.0 < self.now.terms }
         ensures every { OnTrue result ((rank : ℕ → ℕ) → Meets self.now rank → rank a.0 < rank b.0) }
-        ensures fails { OnFalse result ((rank : ℕ → ℕ) × Meets self.now rank × (rank b.0 ≤ rank a.0)) }
+        ensures fails { OnFalse result ((rank : ℕ → ℕ) ×
+            Meets self.now rank × (rank b.0 ≤ rank a.0)) }
     {
         rows::relates(&self.less, a.0, b.0)
     }
@@ -76,13 +81,14 @@ impl Preorder {
         requires first { a.0 < self.now.terms }
         requires second { b.0 < self.now.terms }
         ensures every { OnTrue result ((rank : ℕ → ℕ) → Meets self.now rank → rank a.0 ≤ rank b.0) }
-        ensures fails { OnFalse result ((rank : ℕ → ℕ) × Meets self.now rank × (rank b.0 < rank a.0)) }
+        ensures fails { OnFalse result ((rank : ℕ → ℕ) ×
+            Meets self.now rank × (rank b.0 < rank a.0)) }
     {
         rows::relates(&self.at_most, a.0, b.0)
     }
 
-    /// Assumes that a is less than b. Where no order meets that with what was assumed, it is a Clash, and
-    /// nothing changes.
+    /// Assumes that a is less than b. Where no order meets that with what was assumed, it is a
+    /// Clash, and nothing changes.
     pub fn assume_less(&mut self, a: Term, b: Term) -> Result<(), Clash>
         requires first { a.0 < self.old.terms }
         requires second { b.0 < self.old.terms }
@@ -106,8 +112,8 @@ impl Preorder {
         Ok(())
     }
 
-    /// Assumes that a is at most b. Where no order meets that with what was assumed, it is a Clash, and
-    /// nothing changes.
+    /// Assumes that a is at most b. Where no order meets that with what was assumed, it is a
+    /// Clash, and nothing changes.
     pub fn assume_at_most(&mut self, a: Term, b: Term) -> Result<(), Clash>
         requires first { a.0 < self.old.terms }
         requires second { b.0 < self.old.terms }
@@ -132,7 +138,8 @@ impl Preorder {
         Ok(())
     }
 
-    /// Whether exactly one order of the terms, in which any two are comparable, meets what was assumed.
+    /// Whether exactly one order of the terms, in which any two are comparable, meets what was
+    /// assumed.
     pub fn is_total(&self) -> bool
         ensures one { OnTrue result (HasOneOrder self.now) }
         ensures two { OnFalse result (HasTwoOrders self.now) }

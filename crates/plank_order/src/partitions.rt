@@ -15,10 +15,11 @@ const _: () = prove!(NAMES_LIMIT == 16);
 #[derive(Clone, Copy, Debug, PartialEq, Eq, PartialOrd, Ord)]
 pub struct Name(pub u32);
 
-/// What is known of the equality of at most 16 node names, as many as a picture has. It is copied, and no call takes memory.
+/// What is known of the equality of at most 16 node names, as many as a picture has. It is copied,
+/// and no call takes memory.
 ///
-/// Contracts see the known facts. A partition of the names is a group for each name, and `Meets` says that
-/// the facts hold of the groups.
+/// Contracts see the known facts. A partition of the names is a group for each name, and `Meets`
+/// says that the facts hold of the groups.
 #[derive(Clone, Copy, Debug, PartialEq, Eq)]
 pub struct Partition {
     same: [u32; 16],
@@ -33,7 +34,8 @@ impl Model for Partition {
 
     ghost view = { λ s. record { names = s.names; same = s.same; apart = s.apart } };
 
-    ghost invariant = { λ s. AreClosed (record { names = s.names; same = s.same; apart = s.apart }) };
+    ghost invariant = { λ s.
+        AreClosed (record { names = s.names; same = s.same; apart = s.apart }) };
 
     ghost inverse = { λ k. record { same = k.same; apart = k.apart; names = k.names } };
 }
@@ -65,8 +67,10 @@ impl Partition {
     pub fn same(&self, a: Name, b: Name) -> bool
         requires first { a.0 < self.now.names }
         requires second { b.0 < self.now.names }
-        ensures every { OnTrue result ((group : ℕ → ℕ) → Meets self.now group → group a.0 ≡ group b.0) }
-        ensures fails { OnFalse result ((group : ℕ → ℕ) × Meets self.now group × (group a.0 ≢ group b.0)) }
+        ensures every { OnTrue result ((group : ℕ → ℕ) →
+            Meets self.now group → group a.0 ≡ group b.0) }
+        ensures fails { OnFalse result ((group : ℕ → ℕ) ×
+            Meets self.now group × (group a.0 ≢ group b.0)) }
     {
         rows::relates(&self.same, a.0, b.0)
     }
@@ -75,14 +79,16 @@ impl Partition {
     pub fn apart(&self, a: Name, b: Name) -> bool
         requires first { a.0 < self.now.names }
         requires second { b.0 < self.now.names }
-        ensures every { OnTrue result ((group : ℕ → ℕ) → Meets self.now group → group a.0 ≢ group b.0) }
-        ensures fails { OnFalse result ((group : ℕ → ℕ) × Meets self.now group × (group a.0 ≡ group b.0)) }
+        ensures every { OnTrue result ((group : ℕ → ℕ) →
+            Meets self.now group → group a.0 ≢ group b.0) }
+        ensures fails { OnFalse result ((group : ℕ → ℕ) ×
+            Meets self.now group × (group a.0 ≡ group b.0)) }
     {
         rows::relates(&self.apart, a.0, b.0)
     }
 
-    /// Assumes that a and b are the same. Where no partition meets that with what was assumed, it is a Clash,
-    /// and nothing changes.
+    /// Assumes that a and b are the same. Where no partition meets that with what was assumed, it
+    /// is a Clash, and nothing changes.
     pub fn assume_same(&mut self, a: Name, b: Name) -> Result<(), Clash>
         requires first { a.0 < self.old.names }
         requires second { b.0 < self.old.names }
@@ -90,7 +96,8 @@ impl Partition {
         ensures partitions { OnOk result ((group : ℕ → ℕ) →
             Meets self.new group ↔ (Meets self.old group × (group a.0 ≡ group b.0))) }
         ensures some { OnOk result ((group : ℕ → ℕ) × Meets self.new group) }
-        ensures clash { OnErr result ((group : ℕ → ℕ) → Meets self.old group → group a.0 ≢ group b.0) }
+        ensures clash { OnErr result ((group : ℕ → ℕ) →
+            Meets self.old group → group a.0 ≢ group b.0) }
         ensures unchanged { OnErr result (self.new ≡ self.old) }
     {
         if rows::relates(&self.apart, a.0, b.0) {
@@ -111,8 +118,8 @@ impl Partition {
         Ok(())
     }
 
-    /// Assumes that a and b are apart. Where no partition meets that with what was assumed, it is a Clash, and
-    /// nothing changes.
+    /// Assumes that a and b are apart. Where no partition meets that with what was assumed, it is a
+    /// Clash, and nothing changes.
     pub fn assume_apart(&mut self, a: Name, b: Name) -> Result<(), Clash>
         requires first { a.0 < self.old.names }
         requires second { b.0 < self.old.names }
@@ -120,7 +127,8 @@ impl Partition {
         ensures partitions { OnOk result ((group : ℕ → ℕ) →
             Meets self.new group ↔ (Meets self.old group × (group a.0 ≢ group b.0))) }
         ensures some { OnOk result ((group : ℕ → ℕ) × Meets self.new group) }
-        ensures clash { OnErr result ((group : ℕ → ℕ) → Meets self.old group → group a.0 ≡ group b.0) }
+        ensures clash { OnErr result ((group : ℕ → ℕ) →
+            Meets self.old group → group a.0 ≡ group b.0) }
         ensures unchanged { OnErr result (self.new ≡ self.old) }
     {
         if rows::relates(&self.same, a.0, b.0) {

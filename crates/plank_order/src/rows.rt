@@ -43,7 +43,8 @@ pub(crate) fn make_diagonal(rows: &mut [u32])
 pub(crate) fn extend(rows: &mut [u32], through: &[u32], a: u32, more: u32)
     requires rows { length rows.old ≡ length through.now }
     requires bit { a < 32 }
-    ensures { (x y : ℕ) → relates rows.new x y ≡ (relates rows.old x y || (relates through.now x a && is_set more y)) }
+    ensures { (x y : ℕ) → relates rows.new x y ≡
+        (relates rows.old x y || (relates through.now x a && is_set more y)) }
 {
     for x in 0..rows.len() {
         rows[x] = row_with(rows[x], through[x], a, more);
