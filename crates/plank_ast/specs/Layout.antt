@@ -1,5 +1,5 @@
 -- The canonical form: where lines break, how they are indented, and where blanks stand between tokens.
-use Rattle.std.specs.Prelude.{ℕ, ◌+◌, ◌-◌, ◌*◌, Bool, true, false, not, ◌&&◌, ◌||◌, List, [], ◌∷◌, ◌++◌, replicate, if◌then◌else◌}
+use Rattle.std.specs.Prelude.{ℕ, zero, suc, ◌+◌, ◌-◌, Bool, true, false, not, ◌&&◌, ◌||◌, List, [], ◌∷◌, ◌++◌, if◌then◌else◌}
 use Rattle.plank_lex.specs.Spelling.{spelling_of, word_of}
 use Rattle.plank_lex.specs.declared.symbols.Symbol.TheVariants as symbol
 use Rattle.plank_lex.specs.declared.words.Reserved.TheVariants as word
@@ -49,15 +49,24 @@ joins_before k (kind.Symbol symbol.Dot) = true
 joins_before k (kind.Symbol symbol.OpenParenthesis) = is_name_token k
 joins_before k next = false
 
--- two blanks for each open brace; a closing brace stands with the line that opened it
-abbrev pub indent : ℕ → TokenKind → List ℕ
-indent depth next = replicate (2 * (if is_close_brace next then depth - 1 else depth)) 32
+-- whether no blank stands between two tokens of a line
+abbrev pub joins : TokenKind → TokenKind → Bool
+joins k next = joins_next k || joins_before k next
+
+-- two blanks for each level
+abbrev pub blanks : ℕ → List ℕ
+blanks zero = []
+blanks (suc levels) = 32 ∷ 32 ∷ blanks levels
+
+-- a line is indented by one level for each open brace; a closing brace stands with the line that opened it
+abbrev pub indent_levels : ℕ → TokenKind → ℕ
+indent_levels depth next = if is_close_brace next then depth - 1 else depth
 
 -- what stands between two tokens, with so many braces open after the first
 abbrev pub between : ℕ → TokenKind → TokenKind → List ℕ
 between depth k next =
-    if breaks_line k next then 10 ∷ indent depth next
-    else (if joins_next k || joins_before k next then [] else 32 ∷ [])
+    if breaks_line k next then 10 ∷ blanks (indent_levels depth next)
+    else (if joins k next then [] else 32 ∷ [])
 
 -- how many braces are open after a token
 abbrev pub braces_after : ℕ → TokenKind → ℕ

@@ -272,30 +272,47 @@ else_tokens = fold-Else Spelling Spelling Spelling else_step statement_step body
 
 -- ---- methods and the text
 
+-- names, each after a comma
+abbrev pub more_name_tokens : List Name → Spelling
+more_name_tokens = each_after (kind.Symbol symbol.Comma) name_tokens
+
 abbrev pub variables_tokens : Variables → Spelling
-variables_tokens v =
-    keyword word.Variable ++ name_tokens v.first ++ each_after (kind.Symbol symbol.Comma) name_tokens v.others
-    ++ mark symbol.Semicolon
+variables_tokens v = keyword word.Variable ++ name_tokens v.first ++ more_name_tokens v.others ++ mark symbol.Semicolon
+
+-- the word, the name, the kind and the argument of a method
+abbrev pub signature_tokens : Name → Option Name → Name → Spelling
+signature_tokens name purpose argument =
+    keyword word.Method ++ name_tokens name ++ option_map_or (λ k. keyword word.As ++ name_tokens k) purpose []
+    ++ mark symbol.OpenParenthesis ++ name_tokens argument ++ mark symbol.CloseParenthesis
 
 abbrev pub method_tokens : Method → Spelling
 method_tokens m =
-    keyword word.Method ++ name_tokens m.name ++ option_map_or (λ k. keyword word.As ++ name_tokens k) m.kind []
-    ++ mark symbol.OpenParenthesis ++ name_tokens m.argument ++ mark symbol.CloseParenthesis ++ mark symbol.OpenBrace
-    ++ option_map_or variables_tokens m.variables [] ++ flat_map statement_tokens m.statements ++ mark symbol.CloseBrace
+    signature_tokens m.name m.kind m.argument ++ mark symbol.OpenBrace ++ option_map_or variables_tokens m.variables []
+    ++ flat_map statement_tokens m.statements ++ mark symbol.CloseBrace
 
 abbrev pub methods_tokens : Methods → Spelling
 methods_tokens m = method_tokens m.first ++ flat_map method_tokens m.others
 
+-- the lines that declare the fields, the root and the start nodes
+abbrev pub declarations_tokens : Name → List FlagLine → List PointerLine → Option Place → List RootLine → List StartLine → Spelling
+declarations_tokens structure flags pointers lock roots starts =
+    keyword word.Structure ++ name_tokens structure ++ mark symbol.Semicolon
+    ++ flat_map flag_tokens flags ++ flat_map pointer_tokens pointers
+    ++ option_map_or (λ place. word_line_tokens word.Lock) lock []
+    ++ flat_map root_tokens roots ++ flat_map start_tokens starts
+
+-- the lines of the conditions
+abbrev pub conditions_tokens : List NamedCondition → ConditionLine → List NamedCondition → Option ConditionLine → Spelling
+conditions_tokens edges holds keeps freeze =
+    flat_map (named_condition_tokens word.Edge) edges ++ condition_line_tokens word.Holds holds
+    ++ flat_map (named_condition_tokens word.Keep) keeps
+    ++ option_map_or (condition_line_tokens word.Freeze) freeze []
+
 -- the tokens of a text, without the end, by the parts of its rule
 abbrev pub parts_tokens : Name → List FlagLine → List PointerLine → Option Place → List RootLine → List StartLine → List NamedCondition → ConditionLine → List NamedCondition → Option ConditionLine → Methods → Spelling
 parts_tokens structure flags pointers lock roots starts edges holds keeps freeze methods =
-    keyword word.Structure ++ name_tokens structure ++ mark symbol.Semicolon
-    ++ flat_map flag_tokens flags ++ flat_map pointer_tokens pointers
-    ++ option_map_or (λ place. keyword word.Lock ++ mark symbol.Semicolon) lock []
-    ++ flat_map root_tokens roots ++ flat_map start_tokens starts
-    ++ flat_map (named_condition_tokens word.Edge) edges ++ condition_line_tokens word.Holds holds
-    ++ flat_map (named_condition_tokens word.Keep) keeps
-    ++ option_map_or (condition_line_tokens word.Freeze) freeze [] ++ methods_tokens methods
+    declarations_tokens structure flags pointers lock roots starts ++ conditions_tokens edges holds keeps freeze
+    ++ methods_tokens methods
 
 -- ---- what every text keeps
 

@@ -5,11 +5,14 @@ mod condition_spelling;
 mod conditions;
 mod header;
 mod header_spelling;
+mod layout;
 mod methods;
 mod names;
+mod printing;
 mod spelling;
 mod statement_spelling;
 mod statements;
+mod text_spelling;
 mod texts;
 
 pub use conditions::{Atom, AtomEnd, Comparison, Condition, Conjunction, Literal, Operand};
@@ -19,6 +22,7 @@ pub use header::{
 };
 pub use methods::{Method, Methods, Variables};
 pub use names::{Field, Name, Reference, Truth};
+pub use printing::print;
 pub use statements::{
     Assigned, Bind, Body, Else, Statement, Test, TestLine, Tests, With, Write, Written,
 };
