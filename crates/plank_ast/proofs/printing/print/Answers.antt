@@ -10,7 +10,7 @@ use Rattle.plank_ast.proofs.printing.print.Goals as goal
 pub unreachable-requires : goal.unreachable-requires
 unreachable-requires c =
     let bytes : c.in_ok-bytes.bytes.items ≡ layout (text_tokens c.args.text.now) =
-        c.in_ok-bytes.ensures ∙ ap layout (ap kinds c.deref.ensures.value ∙ c.in_ok-tokens.ensures) in
+    c.in_ok-bytes.ensures ∙ ap layout (ap kinds c.deref.ensures.value ∙ c.in_ok-tokens.ensures) in
     let utf8 : IsUtf8 c.in_ok-bytes.bytes.items =
-        IsUtf8-from_ascii _ (subst (λ (b : List ℕ). IsAscii b) (sym bytes) (lawful_layout_ascii (text_tokens c.args.text.now) c.args.text.now.lawful)) in
+    IsUtf8-from_ascii _ (subst (λ (b : List ℕ). IsAscii b) (sym bytes) (lawful_layout_ascii (text_tokens c.args.text.now) c.args.text.now.lawful)) in
     let never : ◌≡◌ {A = Bool} false true = c.in-Err.ensures.succeeds utf8 in cc
