@@ -1,0 +1,4 @@
+pub mod Layout
+pub mod Spelled
+pub mod Spelling
+pub mod Texts
