@@ -24,3 +24,6 @@ pub use methods::{Action, Location, Method};
 pub use programs::Program;
 pub use scopes::Scope;
 pub use views::{NodeView, POINTER_FIELDS, has_flag};
+
+#[cfg(test)]
+mod tests;
