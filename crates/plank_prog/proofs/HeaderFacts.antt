@@ -9,7 +9,8 @@ use Rattle.plank_base.specs.Keys.{is_ordinary}
 use Rattle.plank_base.specs.declared.limits.TheConstants.{FLAGS_LIMIT, POINTERS_LIMIT, NODES_LIMIT}
 use Rattle.plank_prog.specs.declared.headers.StartNode.{StartNode}
 use Rattle.plank_prog.specs.declared.headers.Header.{Header}
-use Rattle.plank_prog.specs.Headers.{is_lawful_header, is_header_within_limits, have_distinct_names, have_lawful_nodes, have_lawful_conditions, is_lawful_start_node, leads_within}
+use Rattle.plank_prog.specs.Headers.{is_lawful_header, is_header_within_limits, have_distinct_names, have_lawful_nodes, have_lawful_conditions, is_lawful_start_node, leads_within, optional_fits, walk_scope, freeze_scope, keep_scope}
+use Rattle.plank_prog.specs.Scopes.{condition_fits}
 
 -- a test that each item passes, at one item
 pub list_all_at : {X : Type 0} (test : X → Bool) (xs : List X) (i : ℕ) (x : X) → list_all test xs ≡ true → slice_get xs i ≡ Some x → test x ≡ true
@@ -32,6 +33,12 @@ module _ (h : Header) (lawful : is_lawful_header h ≡ true) where
   pub lawful_conditions : have_lawful_conditions h ≡ true
   lawful_conditions =
       second_so (is_header_within_limits h && have_distinct_names h && have_lawful_nodes h) (have_lawful_conditions h) lawful
+
+  pub lawful_freeze : optional_fits (freeze_scope h) h.freeze ≡ true
+  lawful_freeze =
+      second_so
+      (list_all (λ p. optional_fits (walk_scope h) p.edge) h.pointers && condition_fits (walk_scope h) h.holds && list_all (λ k. condition_fits (keep_scope h) k.condition) h.keeps)
+      (optional_fits (freeze_scope h) h.freeze) lawful_conditions
 
   within_limits : is_header_within_limits h ≡ true
   within_limits =

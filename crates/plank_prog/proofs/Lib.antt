@@ -3,3 +3,4 @@ pub mod Rests
 pub mod Values
 pub mod HeaderFacts
 pub mod ViewLaws
+pub mod ScopeLaws
