@@ -4,7 +4,7 @@ use Rattle.std.proofs.Common.{◌≡◌, ℕ, zero, suc, ◌<◌, ℤ, Bool, tru
 use Rattle.std.specs.Prelude.{map, slice_get, option_map, option_and_then, is_none}
 use Rattle.std.specs.Option.{option_flatten, option_map_or}
 use Rattle.std.proofs.lemmas.List.{length-map}
-use Rattle.std.proofs.lemmas.Option.{none-some, same_Some, slice_get-map}
+use Rattle.std.proofs.lemmas.Option.{none-some, same_Some}
 use mathlib.Core.Path.{fun_ext}
 use Rattle.plank_base.specs.Keys.{is_ordinary}
 use Rattle.plank_base.specs.Paths.{end_within}
@@ -19,7 +19,7 @@ use Rattle.plank_prog.specs.Views.{value_at, holds_at}
 use Rattle.plank_prog.proofs.HeaderFacts.{root_within, start_pointer_leads_within, start_key_is_end}
 use Rattle.plank_prog.proofs.ViewLaws.{same_value_at_end}
 use Rattle.plank_heap.specs.declared.nodes.Node.{Node}
-use Rattle.plank_heap.specs.Heaps.{IsClosed, LeadsWithin, start_pointer, start_node, start_heap, view_of_node}
+use Rattle.plank_heap.specs.Heaps.{IsClosed, start_pointer, start_node, start_heap, view_of_node}
 use Rattle.plank_heap.specs.Walks.{first_admitted, next_from, next, holds_of, walk_end, contains}
 
 -- where a pointer that is read leads

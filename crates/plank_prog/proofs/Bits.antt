@@ -1,6 +1,6 @@
 -- One bit of a number, as a mask tests it.
-use Rattle.std.proofs.Common.{◌≡◌, ◌≢◌, ℕ, zero, suc, ◌+◌, ◌*◌, ◌<◌, ◌≤◌, ◌^◌, ◌%◌, Bool, true, false, not, nat_eq, nat_lt, nat_le, refl, sym, ◌∙◌, ap, subst, arith, inl, inr}
-use Rattle.std.specs.Int.{bit_at, w8}
+use Rattle.std.proofs.Common.{◌≡◌, ◌≢◌, ℕ, zero, suc, ◌*◌, ◌<◌, ◌≤◌, ◌^◌, ◌%◌, false, not, nat_eq, nat_lt, nat_le, sym, ◌∙◌, ap, arith}
+use Rattle.std.specs.Int.{bit_at}
 use Rattle.std.specs.Prelude.{bit_and}
 use Rattle.std.proofs.Math.Nat.{zero-mul, one-mul}
 use Rattle.std.proofs.lemmas.Bool.{ne_eqb, le-leb, lt-ltb}

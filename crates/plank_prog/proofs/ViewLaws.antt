@@ -3,7 +3,7 @@ use Rattle.std.proofs.Common.{◌≡◌, ◌⊎◌, ℕ, ◌≤◌, ℤ, pos, ne
 use Rattle.std.proofs.lemmas.Bool.{false≢true, cases_lt, le-ltb, ltb-false}
 use Rattle.std.specs.Prelude.{nat_lt, int_lt}
 use Rattle.plank_base.specs.declared.keys.Key.{Key}
-use Rattle.plank_base.specs.Keys.{is_less, is_at_most, is_ordinary}
+use Rattle.plank_base.specs.Keys.{is_at_most, is_ordinary}
 use Rattle.plank_prog.specs.declared.conditions.KeyTerm.{KeyTerm}
 use Rattle.plank_prog.specs.declared.conditions.Condition.{Condition}
 use Rattle.plank_prog.specs.Conditions.{View, value, SameAnswers, IsTotalPreorder}

@@ -2,7 +2,7 @@ use Rattle.std.proofs.Common.{◌≡◌, ◌∙◌, List, sym, ap, subst}
 use Rattle.std.specs.Prelude.{map}
 use Rattle.std.proofs.lemmas.List.{take_all}
 use Rattle.plank_heap.specs.declared.nodes.Node.{Node}
-use Rattle.plank_heap.specs.Heaps.{IsClosed, start_node, start_heap}
+use Rattle.plank_heap.specs.Heaps.{IsClosed, start_node}
 use Rattle.plank_heap.proofs.Starts.{start_closed}
 use Rattle.plank_heap.proofs.heaps.Heap.start.Goals as goal
 
