@@ -1,12 +1,12 @@
 -- The walk of a key counted by moves, that it stays in a closed heap, and what tells where it ends.
-use Rattle.std.proofs.Common.{◌≡◌, ◌↔◌, ℕ, zero, suc, ◌+◌, ◌<◌, ◌≤◌, ℤ, length, Option, Some, None, refl, sym, ◌∙◌, ap, subst, inl, inr}
-use Rattle.std.specs.Prelude.{option_and_then, slice_get, IsTrue, Bool, true, false}
+use Rattle.std.proofs.Common.{◌≡◌, ◌↔◌, ℕ, zero, suc, ◌<◌, ℤ, length, Option, Some, None, refl, sym, ◌∙◌, ap, subst, inl, inr}
+use Rattle.std.specs.Prelude.{option_and_then, slice_get, IsTrue, true, false}
 use Rattle.std.specs.Option.{option_map_or}
 use Rattle.std.proofs.lemmas.Bool.{false≢true}
 use Rattle.std.proofs.lemmas.Option.{none-some, same_Some, slice_get_past}
-use Rattle.plank_base.specs.Paths.{Path, EndsAt, NeverEnds, IsUndefinedFrom, StaysBelow, after}
+use Rattle.plank_base.specs.Paths.{EndsAt, NeverEnds, IsUndefinedFrom, StaysBelow, after}
 use Rattle.plank_base.proofs.Paths.{one_end, successor_cases}
-use Rattle.plank_base.proofs.PathCounts.{after-more, path_from_after, path_stays, endless_below, end_decides, endless_decides}
+use Rattle.plank_base.proofs.PathCounts.{after-more, end_decides, endless_decides}
 use Rattle.plank_base.specs.declared.keys.NodeId.{NodeId}
 use Rattle.plank_prog.specs.declared.headers.Header.{Header}
 use Rattle.plank_prog.specs.Views.{admits}
@@ -14,7 +14,7 @@ use Rattle.plank_heap.specs.declared.walks.WalkEnd.{WalkEnd}
 use Rattle.plank_heap.specs.declared.nodes.Node.{Node}
 use Rattle.plank_heap.specs.declared.heaps.Heap.{Heap}
 use Rattle.plank_heap.specs.Heaps.{IsClosed}
-use Rattle.plank_heap.specs.Walks.{first_admitted, next_from, next, walk_end, holds_of, contains, Contains}
+use Rattle.plank_heap.specs.Walks.{next_from, next, walk_end, holds_of, contains, Contains}
 use Rattle.plank_heap.proofs.Fields.{target_listed}
 
 -- ---- one move more

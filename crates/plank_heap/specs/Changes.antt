@@ -1,5 +1,5 @@
 -- Heaps with one node changed or added.
-use Rattle.std.specs.Prelude.{ℕ, ℤ, Bool, true, false, List, [], ◌∷◌, ◌++◌, ◌^◌, slice_set, Option, None, bit_or, bit_and}
+use Rattle.std.specs.Prelude.{ℕ, ℤ, Bool, true, false, [], ◌∷◌, ◌++◌, ◌^◌, slice_set, Option, None, bit_or, bit_and}
 use Rattle.std.specs.Int.{bit_not, w8}
 use Rattle.plank_base.specs.declared.keys.Key.{Key}
 use Rattle.plank_base.specs.declared.keys.NodeId.{NodeId}

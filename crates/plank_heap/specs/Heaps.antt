@@ -1,5 +1,5 @@
 -- Heaps that fit a program, the start heap, and what a node shows to conditions.
-use Rattle.std.specs.Prelude.{◌≡◌, ℕ, ℤ, ◌<◌, Bool, List, [], ◌∷◌, length, map, slice_get, Option, Some, None, is_none, option_map}
+use Rattle.std.specs.Prelude.{◌≡◌, ℕ, ℤ, ◌<◌, Bool, [], ◌∷◌, length, map, slice_get, Option, Some, None, is_none, option_map}
 use Rattle.std.specs.Option.{option_flatten}
 use Rattle.plank_base.specs.declared.keys.Key.{Key}
 use Rattle.plank_base.specs.declared.keys.NodeId.{NodeId}

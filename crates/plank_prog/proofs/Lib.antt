@@ -1,3 +1,6 @@
 pub mod Bits
 pub mod Rests
 pub mod Values
+pub mod HeaderFacts
+pub mod ViewLaws
+pub mod ScopeLaws

@@ -1,5 +1,5 @@
 -- What is left of a list from a place on, in a loop over its items.
-use Rattle.std.proofs.Common.{◌≡◌, ℕ, suc, ◌+◌, ◌-◌, ◌<◌, ◌≤◌, ◌&&◌, Bool, true, List, ◌∷◌, length, get_or, take, drop, sym, ◌∙◌, ap, arith, add-one, drop-cons, length-drop}
+use Rattle.std.proofs.Common.{◌≡◌, ℕ, suc, ◌+◌, ◌-◌, ◌<◌, ◌&&◌, Bool, true, List, ◌∷◌, length, get_or, take, drop, sym, ◌∙◌, ap, arith, add-one, drop-cons, length-drop}
 use Rattle.std.proofs.lemmas.List.{take_all}
 use Rattle.std.specs.List.{list_all}
 use Rattle.plank_prog.specs.Names.{all_pairs}

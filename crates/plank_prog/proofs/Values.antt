@@ -1,5 +1,5 @@
 -- Equations of the value of a condition with parts, and the loops over the parts.
-use Rattle.std.proofs.Common.{◌≡◌, ℕ, ◌+◌, ◌<◌, ◌≤◌, ◌&&◌, ◌||◌, Bool, true, false, List, [], map, length, get_or, drop, refl, sym, ◌∙◌, ap, rules}
+use Rattle.std.proofs.Common.{◌≡◌, ℕ, ◌+◌, ◌<◌, ◌≤◌, ◌&&◌, ◌||◌, Bool, true, false, List, map, length, get_or, drop, sym, ◌∙◌, ap}
 use Rattle.std.proofs.lemmas.List.{drop_all}
 use Rattle.plank_prog.specs.declared.conditions.Condition.{Condition}
 use Rattle.plank_prog.specs.declared.conditions.Condition.TheOpen.{Condition-F}

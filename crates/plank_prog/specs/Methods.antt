@@ -3,7 +3,6 @@ use Rattle.std.specs.Prelude.{ℕ, ◌+◌, ◌*◌, ◌-◌, Bool, true, false,
 use Rattle.std.specs.List.{list_all}
 use Rattle.plank_base.specs.declared.limits.TheConstants.{METHODS_LIMIT, VARIABLES_LIMIT, LOCATIONS_LIMIT, SITES_LIMIT, EFFECT_FACTS_LIMIT}
 use Rattle.plank_prog.specs.declared.headers.Header.{Header}
-use Rattle.plank_prog.specs.declared.blocks.Block.{Block}
 use Rattle.plank_prog.specs.declared.methods.Action.{Action}
 use Rattle.plank_prog.specs.declared.methods.Location.{Location}
 use Rattle.plank_prog.specs.declared.methods.Method.{Method}

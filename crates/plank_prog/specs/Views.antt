@@ -1,5 +1,5 @@
 -- The values of a header's conditions at a node and a walked key.
-use Rattle.std.specs.Prelude.{ℕ, ℤ, pos, Bool, true, false, ◌==◌, List, [], Option, unwrap_or, slice_get}
+use Rattle.std.specs.Prelude.{ℕ, ℤ, pos, Bool, false, ◌==◌, List, [], unwrap_or, slice_get}
 use Rattle.std.specs.Option.{option_map_or}
 use Rattle.std.specs.Int.{bit_at}
 use Rattle.plank_base.specs.Keys.{is_at_most}

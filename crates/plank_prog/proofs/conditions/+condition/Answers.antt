@@ -1,4 +1,4 @@
-use Rattle.std.proofs.Common.{◌≡◌, map, sym, ap, ◌∙◌}
+use Rattle.std.proofs.Common.{map, sym, ap, ◌∙◌}
 use Rattle.plank_prog.specs.Conditions.{value, all_true, some_true}
 use Rattle.plank_prog.specs.Views.{view_of}
 use Rattle.plank_prog.proofs.Values.{value-All, value-Any, all_stops, all_goes_on, all_ends, some_stops, some_goes_on, some_ends}

@@ -1,4 +1,4 @@
-use Rattle.std.proofs.Common.{◌≡◌, map, sym, ap, ◌∙◌}
+use Rattle.std.proofs.Common.{map, sym, ap, ◌∙◌}
 use Rattle.plank_prog.specs.Conditions.{all_true}
 use Rattle.plank_prog.specs.Scopes.{condition_fits}
 use Rattle.plank_prog.proofs.Values.{condition_fits-All, condition_fits-Any, all_stops, all_goes_on, all_ends}

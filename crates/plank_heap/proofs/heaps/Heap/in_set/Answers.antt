@@ -1,10 +1,9 @@
-use Rattle.std.proofs.Common.{◌≡◌, ◌∙◌, ◌<◌, ℤ, ℕ, length, refl, sym, ap, subst, rules, false, to_z, of_z, w64, SFits}
+use Rattle.std.proofs.Common.{◌≡◌, ◌∙◌, ℤ, refl, sym, ap, subst, rules, false, to_z, of_z, w64, SFits}
 use Rattle.std.specs.Option.{option_map_or}
 use Rattle.std.proofs.lemmas.Int.{to_z-of_z}
-use Rattle.plank_base.specs.Paths.{EndsAt}
 use Rattle.plank_base.proofs.PathCounts.{path_stays}
 use Rattle.plank_prog.specs.Views.{holds_at}
-use Rattle.plank_heap.specs.Walks.{next, contains, holds_of}
+use Rattle.plank_heap.specs.Walks.{contains}
 use Rattle.plank_heap.proofs.Walking.{walk_stays, contains-at, contains-cycle, contains_decides}
 use Rattle.plank_heap.proofs.heaps.Heap.in_set.Goals as goal
 use Rattle.plank_heap.proofs.heaps.Heap.in_set.Goals.{After-holds}

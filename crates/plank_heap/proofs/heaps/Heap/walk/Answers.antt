@@ -1,4 +1,4 @@
-use Rattle.std.proofs.Common.{◌≡◌, ◌∙◌, ◌+◌, ◌<◌, ℤ, ℕ, length, Option, Some, None, sym, ap, subst, arith, add-one, rules, to_z, of_z, w64, SFits}
+use Rattle.std.proofs.Common.{◌≡◌, ◌∙◌, ℤ, ℕ, length, Option, Some, sym, ap, subst, arith, add-one, rules, to_z, of_z, w64, SFits}
 use Rattle.std.specs.Option.{option_map}
 use Rattle.std.proofs.lemmas.Int.{to_z-of_z}
 use Rattle.plank_base.specs.declared.keys.NodeId.{NodeId}
