@@ -1,2 +1,4 @@
 pub mod Fields
 pub mod Walking
+pub mod Starts
+pub mod Flags

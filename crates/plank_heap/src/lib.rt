@@ -2,9 +2,11 @@
 #![tactic(auto)]
 
 mod heaps;
+mod laws;
 mod nodes;
 mod walks;
 
 pub use heaps::Heap;
+pub use laws::{flag_laws, start_laws, walk_laws};
 pub use nodes::Node;
 pub use walks::WalkEnd;

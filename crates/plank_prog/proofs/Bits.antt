@@ -17,7 +17,7 @@ bit_times (suc zero) p small positive =
 bit_times (suc (suc b)) p small positive = absurd (omega arith)
 
 -- the mask of a byte's bit
-mask : (i : ℕ) → i < 8 → 1 * 2 ^ i % 256 ≡ 2 ^ i
+pub mask : (i : ℕ) → i < 8 → 1 * 2 ^ i % 256 ≡ 2 ^ i
 mask i below = let small : 2 ^ i < 2 ^ 8 = pow_below i 8 below in omega arith
 
 pub mask_tests_bit : (n i : ℕ) → i < 8 → not (nat_eq (bit_and n (1 * 2 ^ i % 256)) 0) ≡ is_bit_set n i

@@ -1,3 +1,5 @@
 pub mod Bits
 pub mod Rests
 pub mod Values
+pub mod HeaderFacts
+pub mod ViewLaws

@@ -1,5 +1,5 @@
 -- The value of a condition, over a view: answers about keys, flags, pointers and the walk.
-use Rattle.std.specs.Prelude.{ℕ, Bool, true, false, not, ◌&&◌, ◌||◌, List, [], ◌∷◌}
+use Rattle.std.specs.Prelude.{◌≡◌, ◌⊎◌, ℕ, Bool, true, false, not, ◌&&◌, ◌||◌, List, [], ◌∷◌}
 use Rattle.std.specs.Bool.{beq}
 use Rattle.plank_prog.specs.declared.conditions.KeyTerm.{KeyTerm}
 use Rattle.plank_prog.specs.declared.conditions.KeyRelation.{KeyRelation}
@@ -45,3 +45,15 @@ value_step v (Condition-F.Any bs) = some_true bs
 -- the value of a condition at a view
 abbrev pub value : View → Condition → Bool
 value v = fold-Condition Bool (value_step v)
+
+-- two views that give the same answers
+pub record SameAnswers (v w : View) : Type 0 where
+  pub at_most : (a b : KeyTerm) → v.at_most a b ≡ w.at_most a b
+  pub flag : (f : ℕ) → v.flag f ≡ w.flag f
+  pub null : (p : ℕ) → v.null p ≡ w.null p
+  pub visited : v.visited ≡ w.visited
+
+-- an order in which any two can be compared
+pub record IsTotalPreorder {K : Type 0} (at_most : K → K → Bool) : Type 0 where
+  pub total : (a b : K) → (at_most a b ≡ true) ⊎ (at_most b a ≡ true)
+  pub transitive : (a b c : K) → at_most a b ≡ true → at_most b c ≡ true → at_most a c ≡ true

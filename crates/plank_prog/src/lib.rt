@@ -6,6 +6,7 @@ mod blocks;
 mod conditions;
 mod header_rules;
 mod headers;
+mod laws;
 mod method_rules;
 mod methods;
 mod names;
@@ -18,6 +19,7 @@ pub use blocks::{
 };
 pub use conditions::{Condition, KeyRelation, KeyTerm};
 pub use headers::{Header, Keep, KeyOrder, Pointer, StartNode};
+pub use laws::condition_laws;
 pub use methods::{Action, Location, Method};
 pub use programs::Program;
 pub use scopes::Scope;
