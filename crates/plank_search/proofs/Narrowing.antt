@@ -1,0 +1,82 @@
+-- Steps of a search, one after another: what follows from each follows from all.
+use Rattle.std.proofs.Common.{◌≡◌, ◌+◌, ◌<◌, ◌≤◌, ℕ, zero, suc, ◌⊎◌, inl, inr, [], ◌∷◌, Bool, true, false, List, length, refl, sym, subst, ◌∙◌, ap, arith}
+use Rattle.std.specs.Prelude.{Option, Some, None, slice_set}
+use Rattle.std.proofs.Math.ListN.{set, get_or}
+use Rattle.std.proofs.lemmas.List.{get_or-set_same, get_or-set_other, length-set}
+use Rattle.plank_search.specs.Assignments.{value_at, IsOpen, open_count, with_value, Agrees, NoneAgrees, AllAgree, Narrows}
+use Rattle.plank_search.specs.Answers.{Propagates}
+use Rattle.plank_search.proofs.Assigning.{open-below, with_value-same, with_value-fewer}
+
+pub Narrows-refl : {m : (ℕ → Bool) → Type 0} (values : List (Option Bool)) → Narrows m values values
+Narrows-refl values = record { keeps = λ full meets agrees. agrees; within = λ full agrees. agrees; not_wider = omega arith; same_length = refl }
+
+pub Narrows-then : {m : (ℕ → Bool) → Type 0} {a b c : List (Option Bool)} → Narrows m a b → Narrows m b c → Narrows m a c
+Narrows-then first second = record {
+  keeps = λ full meets agrees. second.keeps full meets (first.keeps full meets agrees);
+  within = λ full agrees. first.within full (second.within full agrees);
+  not_wider = omega (arith, first.not_wider, second.not_wider);
+  same_length = second.same_length ∙ first.same_length;
+}
+
+pub Narrows-by : {m n : (ℕ → Bool) → Type 0} {a b : List (Option Bool)} → ((full : ℕ → Bool) → n full → m full) → Narrows m a b → Narrows n a b
+Narrows-by weaker step = record {
+  keeps = λ full meets agrees. step.keeps full (weaker full meets) agrees;
+  within = step.within;
+  not_wider = step.not_wider;
+  same_length = step.same_length;
+}
+
+pub NoneAgrees-then : {m : (ℕ → Bool) → Type 0} {a b : List (Option Bool)} → Narrows m a b → NoneAgrees m b → NoneAgrees m a
+NoneAgrees-then first none = record { contradicts = λ full meets agrees. none.contradicts full meets (first.keeps full meets agrees) }
+
+pub NoneAgrees-by : {m n : (ℕ → Bool) → Type 0} {a : List (Option Bool)} → ((full : ℕ → Bool) → n full → m full) → NoneAgrees m a → NoneAgrees n a
+NoneAgrees-by weaker none = record { contradicts = λ full meets agrees. none.contradicts full (weaker full meets) agrees }
+
+pub Propagates-then : {m : (ℕ → Bool) → Type 0} {a b : List (Option Bool)} (c : List (Option Bool)) (goes : Bool) → Narrows m a b → Propagates m b c goes → Propagates m a c goes
+Propagates-then c true first second = Narrows-then first second
+Propagates-then c false first second = NoneAgrees-then first second
+
+pub Propagates-by : {m n : (ℕ → Bool) → Type 0} (a b : List (Option Bool)) (goes : Bool) → ((full : ℕ → Bool) → n full → m full) → Propagates m a b goes → Propagates n a b goes
+Propagates-by a b true weaker step = Narrows-by weaker step
+Propagates-by a b false weaker step = NoneAgrees-by weaker step
+
+-- who agrees with the values after a put agreed before
+pub with_value-within : (values : List (Option Bool)) (part : ℕ) (value : Bool) → IsOpen values part → (full : ℕ → Bool) → Agrees (with_value values part value) full → Agrees values full
+with_value-within values part value open_part full agrees = record { decided = λ other known h. agrees.decided other known (unchanged other known h) }
+  where
+    differs : (other : ℕ) (known : Bool) → value_at values other ≡ Some known → other ≡ part → ⊥
+    differs other known h e = let open_there : value_at values other ≡ None = rw e open_part in cc
+
+    unchanged : (other : ℕ) (known : Bool) → value_at values other ≡ Some known → value_at (with_value values part value) other ≡ Some known
+    unchanged other known h = get_or-set_other values part other (Some value) (Some false) (differs other known h) ∙ h
+
+-- and gives the part its value
+pub with_value-given : (values : List (Option Bool)) (part : ℕ) (value : Bool) → IsOpen values part → (full : ℕ → Bool) → Agrees (with_value values part value) full → full part ≡ value
+with_value-given values part value open_part full agrees = agrees.decided part value (with_value-same values part value open_part)
+
+-- what a part reads as after a put
+written-cases : (values : List (Option Bool)) (part : ℕ) (value : Bool) (other : ℕ) (known : Bool) →
+    value_at (with_value values part value) other ≡ Some known → ((other ≡ part) × (known ≡ value)) ⊎ (value_at values other ≡ Some known)
+written-cases [] part value other known h = inr h
+written-cases (x ∷ xs) zero value zero known h = inl (refl, cc)
+written-cases (x ∷ xs) zero value (suc other) known h = inr h
+written-cases (x ∷ xs) (suc part) value zero known h = inr h
+written-cases (x ∷ xs) (suc part) value (suc other) known h =
+    elim (written-cases xs part value other known h) [ inl e ↦ inl (ap suc e.0, e.1) | inr e ↦ inr e ]
+
+-- who agreed and gives the part the value agrees after the put
+pub with_value-agrees : (values : List (Option Bool)) (part : ℕ) (value : Bool) (full : ℕ → Bool) → Agrees values full → full part ≡ value → Agrees (with_value values part value) full
+with_value-agrees values part value full agrees given = record {
+  decided = λ other known h.
+      elim (written-cases values part value other known h) [ inl e ↦ ap full e.0 ∙ given ∙ sym e.1 | inr e ↦ agrees.decided other known e ];
+}
+
+-- a put of a value that follows
+pub with_value-narrows : {m : (ℕ → Bool) → Type 0} (values : List (Option Bool)) (part : ℕ) (value : Bool) → IsOpen values part →
+    ((full : ℕ → Bool) → m full → Agrees values full → full part ≡ value) → Narrows m values (with_value values part value)
+with_value-narrows values part value open_part follows = record {
+  keeps = λ full meets agrees. with_value-agrees values part value full agrees (follows full meets agrees);
+  within = λ full agrees. with_value-within values part value open_part full agrees;
+  not_wider = omega (arith, with_value-fewer values part value open_part);
+  same_length = length-set values part (Some value);
+}

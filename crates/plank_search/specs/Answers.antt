@@ -1,0 +1,35 @@
+-- What the answers of a look, of a step of the search and of the search itself say.
+use Rattle.std.specs.Prelude.{◌≡◌, ◌<◌, ℕ, not, Bool, true, false, List, Option}
+use Rattle.plank_search.specs.Assignments.{Agrees, IsOpen, NoneAgrees, AllAgree, Narrows, open_count}
+use Rattle.plank_search.specs.declared.rules.Look.{Look}
+use Rattle.plank_search.specs.declared.rules.Look.TheVariants.{Fails, Holds, Needs}
+use Rattle.plank_search.specs.declared.steps.Step.{Step}
+use Rattle.plank_search.specs.declared.steps.Step.TheVariants.{Conflict, Kept, Narrowed}
+
+-- a look at something of this meaning: it is false, or true, of all that agree, or it needs an open part
+abbrev pub Tells : ((ℕ → Bool) → Type 0) → List (Option Bool) → Look → Type 0
+Tells meets values Fails = NoneAgrees meets values
+Tells meets values Holds = AllAgree meets values
+Tells meets values (Needs part) = IsOpen values part
+
+-- a propagation: the new values follow from the old, or nothing of this kind agrees with the old
+abbrev pub Propagates : ((ℕ → Bool) → Type 0) → List (Option Bool) → List (Option Bool) → Bool → Type 0
+Propagates meets old new true = Narrows meets old new
+Propagates meets old new false = NoneAgrees meets old
+
+-- a step: a conflict, nothing new, or new values with fewer open parts
+abbrev pub Steps : ((ℕ → Bool) → Type 0) → List (Option Bool) → List (Option Bool) → Step → Type 0
+Steps meets old new Conflict = NoneAgrees meets old
+Steps meets old new Kept = new ≡ old
+Steps meets old new Narrowed = Narrows meets old new × (open_count new < open_count old)
+
+-- a probe of a part at a value: where it fails, nothing of this kind agrees and gives the part this value
+abbrev pub Probes : ((ℕ → Bool) → Type 0) → List (Option Bool) → ℕ → Bool → Look → Type 0
+Probes meets values part value Fails = (full : ℕ → Bool) → meets full → Agrees values full → full part ≡ value → ⊥
+Probes meets values part value Holds = Unit {0}
+Probes meets values part value (Needs other) = Unit {0}
+
+-- a search: all that agree with the new values are of this kind and agreed before, or nothing of this kind agreed
+abbrev pub Searches : ((ℕ → Bool) → Type 0) → List (Option Bool) → List (Option Bool) → Bool → Type 0
+Searches meets old new true = AllAgree meets new × ((full : ℕ → Bool) → Agrees new full → Agrees old full)
+Searches meets old new false = NoneAgrees meets old

@@ -1,0 +1,11 @@
+//! A search for full assignments of two-valued parts that meet a system of rules: exact in both directions.
+#![tactic(auto)]
+
+mod clauses;
+mod rules;
+mod steps;
+mod values;
+
+pub use clauses::{Clauses, Literal};
+pub use rules::Look;
+pub use values::{Reads, Values};

@@ -1,0 +1,52 @@
+ghost use Rattle.std.specs.Prelude.{◌≡◌, ◌<◌, ℕ, Bool, true};
+ghost use Rattle.plank_search.specs.Meanings.{MeetsRules};
+ghost use Rattle.plank_search.specs.Answers.{Tells, Propagates};
+
+use crate::values::{Reads, Values};
+
+/// What a look at a constraint tells.
+#[derive(Clone, Copy, PartialEq, Eq, Debug)]
+pub enum Look {
+    /// False of every full assignment that agrees with the values.
+    Fails,
+    /// True of every full assignment that agrees with the values.
+    Holds,
+    /// Not known as long as this part is open.
+    Needs(usize),
+}
+
+/// A system of rules over two-valued parts: constraints, each with a meaning, and closures that put
+/// what follows from a newly put part.
+///
+/// A new rule is a constraint: give it the next number, its meaning, and an arm of `look` that reads
+/// parts on demand. A family of many small rules is a closure: `apply` puts what follows, and `look`
+/// answers each row of the family, so that the last pass sees it.
+pub trait Rules {
+    ghost constraint_count: { Self → ℕ };
+
+    ghost meaning: { Self → ℕ → (ℕ → Bool) → Bool };
+
+    /// How many constraints there are, the rows of closures included.
+    fn constraints(&self) -> usize
+        ensures { result ≡ constraint_count self.now };
+
+    /// How many constraints, the first ones, are looked at during the search. The others, rows of
+    /// closures, are looked at by the last pass alone. A hint: any number is right.
+    fn watched(&self) -> usize {
+        self.constraints()
+    }
+
+    /// Looks at a constraint under a partial assignment, reading parts until it is known or an open
+    /// one is needed.
+    fn look(&self, constraint: usize, values: &Values, reads: &mut Reads) -> Look
+        requires { constraint < constraint_count self.now }
+        ensures { Tells (λ full. meaning self.now constraint full ≡ true) values.now result };
+
+    /// Puts what follows from a newly put part; false where nothing that meets the constraints
+    /// agrees with the values.
+    fn apply(&self, _part: usize, _values: &mut Values, _reads: &mut Reads) -> bool
+        ensures { Propagates (MeetsRules (meaning self.now) (constraint_count self.now)) _values.old _values.new result }
+    {
+        true
+    }
+}
