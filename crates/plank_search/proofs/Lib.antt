@@ -1,2 +1,4 @@
 pub mod Assigning
 pub mod Narrowing
+pub mod Standings
+pub mod Probing

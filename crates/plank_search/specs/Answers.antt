@@ -3,8 +3,12 @@ use Rattle.std.specs.Prelude.{◌≡◌, ◌<◌, ℕ, not, Bool, true, false, L
 use Rattle.plank_search.specs.Assignments.{Agrees, IsOpen, NoneAgrees, AllAgree, Narrows, open_count}
 use Rattle.plank_search.specs.declared.rules.Look.{Look}
 use Rattle.plank_search.specs.declared.rules.Look.TheVariants.{Fails, Holds, Needs}
+use Rattle.plank_search.specs.Meanings.{literal_holds, clause_holds}
+use Rattle.plank_search.specs.declared.clauses.Literal.{Literal}
 use Rattle.plank_search.specs.declared.steps.Step.{Step}
-use Rattle.plank_search.specs.declared.steps.Step.TheVariants.{Conflict, Kept, Narrowed}
+use Rattle.plank_search.specs.declared.steps.Step.TheVariants as step
+use Rattle.plank_search.specs.declared.steps.Standing.{Standing}
+use Rattle.plank_search.specs.declared.steps.Standing.TheVariants as standing
 
 -- a look at something of this meaning: it is false, or true, of all that agree, or it needs an open part
 abbrev pub Tells : ((ℕ → Bool) → Type 0) → List (Option Bool) → Look → Type 0
@@ -19,9 +23,9 @@ Propagates meets old new false = NoneAgrees meets old
 
 -- a step: a conflict, nothing new, or new values with fewer open parts
 abbrev pub Steps : ((ℕ → Bool) → Type 0) → List (Option Bool) → List (Option Bool) → Step → Type 0
-Steps meets old new Conflict = NoneAgrees meets old
-Steps meets old new Kept = new ≡ old
-Steps meets old new Narrowed = Narrows meets old new × (open_count new < open_count old)
+Steps meets old new step.Conflict = NoneAgrees meets old
+Steps meets old new step.Kept = new ≡ old
+Steps meets old new step.Narrowed = Narrows meets old new × (open_count new < open_count old)
 
 -- a probe of a part at a value: where it fails, nothing of this kind agrees and gives the part this value
 abbrev pub Probes : ((ℕ → Bool) → Type 0) → List (Option Bool) → ℕ → Bool → Look → Type 0
@@ -33,3 +37,10 @@ Probes meets values part value (Needs other) = Unit {0}
 abbrev pub Searches : ((ℕ → Bool) → Type 0) → List (Option Bool) → List (Option Bool) → Bool → Type 0
 Searches meets old new true = AllAgree meets new × ((full : ℕ → Bool) → Agrees new full → Agrees old full)
 Searches meets old new false = NoneAgrees meets old
+
+-- how a clause stands: broken, kept, as true as one open literal, or undecided with an open part
+abbrev pub Stands : List Literal → List (Option Bool) → Standing → Type 0
+Stands clause values standing.Broken = NoneAgrees (λ full. clause_holds full clause ≡ true) values
+Stands clause values standing.Kept = AllAgree (λ full. clause_holds full clause ≡ true) values
+Stands clause values (standing.Unit literal) = IsOpen values literal.part × ((full : ℕ → Bool) → Agrees values full → clause_holds full clause ≡ literal_holds full literal)
+Stands clause values (standing.Loose part) = IsOpen values part

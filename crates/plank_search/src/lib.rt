@@ -2,10 +2,12 @@
 #![tactic(auto)]
 
 mod clauses;
+mod hints;
 mod rules;
 mod steps;
 mod values;
 
 pub use clauses::{Clauses, Literal};
-pub use rules::Look;
+pub use hints::Statistics;
+pub use rules::{Look, Rules};
 pub use values::{Reads, Values};

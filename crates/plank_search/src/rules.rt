@@ -44,8 +44,8 @@ pub trait Rules {
 
     /// Puts what follows from a newly put part; false where nothing that meets the constraints
     /// agrees with the values.
-    fn apply(&self, _part: usize, _values: &mut Values, _reads: &mut Reads) -> bool
-        ensures { Propagates (MeetsRules (meaning self.now) (constraint_count self.now)) _values.old _values.new result }
+    fn apply(&self, part: usize, values: &mut Values, reads: &mut Reads) -> bool
+        ensures { Propagates (MeetsRules (meaning self.now) (constraint_count self.now)) values.old values.new result }
     {
         true
     }
