@@ -5,6 +5,8 @@ use Rattle.std.proofs.Math.ListN.{set, get_or}
 use Rattle.std.proofs.lemmas.List.{get_or-set_same, get_or-set_other, length-set}
 use Rattle.plank_search.specs.Assignments.{value_at, IsOpen, open_count, with_value, Agrees, NoneAgrees, AllAgree, Narrows}
 use Rattle.plank_search.specs.Answers.{Propagates}
+use Rattle.plank_search.specs.Meanings.{MeetsRules, MeetsClauses, Meets, clause_holds}
+use Rattle.plank_search.specs.declared.clauses.Literal.{Literal}
 use Rattle.plank_search.proofs.Assigning.{open-below, with_value-same, with_value-fewer}
 
 pub Narrows-refl : {m : (ℕ → Bool) → Type 0} (values : List (Option Bool)) → Narrows m values values
@@ -80,3 +82,23 @@ with_value-narrows values part value open_part follows = record {
   not_wider = omega (arith, with_value-fewer values part value open_part);
   same_length = length-set values part (Some value);
 }
+
+-- what follows from one clause follows from all
+pub Propagates-clause : (clauses : List (List Literal)) (clause : ℕ) (one : List Literal) (a b : List (Option Bool)) (goes : Bool) → clause < length clauses → one ≡ get_or clauses clause [] →
+    Propagates (λ full. clause_holds full one ≡ true) a b goes → Propagates (MeetsClauses clauses) a b goes
+Propagates-clause clauses clause one a b goes below e step =
+    Propagates-by a b goes (λ full meets. ap (clause_holds full) e ∙ meets.each clause below) step
+
+-- what follows from one constraint follows from all
+pub Propagates-constraint : (meaning : ℕ → (ℕ → Bool) → Bool) (constraints constraint : ℕ) (a b : List (Option Bool)) (goes : Bool) → constraint < constraints →
+    Propagates (λ full. meaning constraint full ≡ true) a b goes → Propagates (MeetsRules meaning constraints) a b goes
+Propagates-constraint meaning constraints constraint a b goes below step =
+    Propagates-by a b goes (λ full meets. meets.each constraint below) step
+
+module _ (meaning : ℕ → (ℕ → Bool) → Bool) (constraints : ℕ) (clauses : List (List Literal)) where
+  -- what follows from the rules, or from the clauses, follows from both
+  pub Propagates-rules : (a b : List (Option Bool)) (goes : Bool) → Propagates (MeetsRules meaning constraints) a b goes → Propagates (Meets meaning constraints clauses) a b goes
+  Propagates-rules a b goes step = Propagates-by a b goes (λ full meets. meets.by_rules) step
+
+  pub Propagates-clauses : (a b : List (Option Bool)) (goes : Bool) → Propagates (MeetsClauses clauses) a b goes → Propagates (Meets meaning constraints clauses) a b goes
+  Propagates-clauses a b goes step = Propagates-by a b goes (λ full meets. meets.by_clauses) step

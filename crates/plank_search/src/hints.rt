@@ -162,7 +162,12 @@ impl Waiting {
         let [needed, under_no, under_yes] = parts;
         self.change(place, needed);
         self.change(place.saturating_add(1), under_no);
-        self.change(place.saturating_add(2), under_yes);
+        let last = if under_yes == under_no {
+            None
+        } else {
+            under_yes
+        };
+        self.change(place.saturating_add(2), last);
     }
 
     /// How many changes there were.
@@ -282,7 +287,7 @@ impl Occurrences {
     }
 
     /// The clause of an occurrence, and the next occurrence.
-    pub(crate) fn item(&self, at: usize) -> Option<(usize, Option<usize>)> {
-        self.items.get(at).copied()
+    pub(crate) fn item(&self, at: Option<usize>) -> Option<(usize, Option<usize>)> {
+        self.items.get(at?).copied()
     }
 }

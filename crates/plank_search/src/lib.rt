@@ -3,6 +3,7 @@
 
 mod clauses;
 mod hints;
+mod propagation;
 mod rules;
 mod steps;
 mod values;

@@ -158,7 +158,7 @@ pub(crate) fn examine(clause: &[Literal], values: &Values) -> Standing
 }
 
 /// Puts the last open literal of a clause whose others are false; false on a conflict.
-fn unit(clause: &[Literal], values: &mut Values, hints: &mut Hints) -> bool
+pub(crate) fn unit(clause: &[Literal], values: &mut Values, hints: &mut Hints) -> bool
     ensures { Propagates (λ full. clause_holds full clause.now ≡ true) values.old values.new result }
 {
     match examine(clause, values) {
