@@ -2,3 +2,5 @@ pub mod Assigning
 pub mod Narrowing
 pub mod Standings
 pub mod Probing
+pub mod Deciding
+pub mod Alternatives

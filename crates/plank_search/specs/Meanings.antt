@@ -1,5 +1,5 @@
 -- What a clause of literals and a whole system of rules mean at a full assignment.
-use Rattle.std.specs.Prelude.{◌≡◌, ◌<◌, ℕ, Bool, true, not, if◌then◌else◌, List, [], length, slice_index_or}
+use Rattle.std.specs.Prelude.{◌≡◌, ◌<◌, ℕ, Bool, true, not, if◌then◌else◌, List, map, [], length, slice_index_or}
 use Rattle.std.specs.List.{list_any}
 use Rattle.plank_search.specs.declared.clauses.Literal.{Literal}
 
@@ -27,3 +27,7 @@ pub record Meets (meaning : ℕ → (ℕ → Bool) → Bool) (constraints : ℕ)
 -- at least one of the goals is yes
 abbrev pub some_goal : List ℕ → (ℕ → Bool) → Bool
 some_goal goals full = list_any full goals
+
+-- the clause that at least one of the goals is yes
+abbrev pub goal_clause : List ℕ → List Literal
+goal_clause goals = map (λ goal. record { part = goal; value = true }) goals

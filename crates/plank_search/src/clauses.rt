@@ -1,4 +1,5 @@
 ghost use Rattle.std.specs.Prelude.{◌≡◌, ◌++◌, ◌∷◌, [], ◌<◌, ℕ, Bool, length, slice_index_or, IfOk, OnOk, OnErr};
+ghost use Rattle.plank_search.specs.Meanings.{goal_clause};
 
 use plank_base::{OutOfMemory, Sequence};
 use std::alloc::Global;
@@ -48,6 +49,26 @@ impl Clauses {
         Ok(())
     }
 
+    /// A copy of the clauses, with the clause that at least one of the goals is yes at the end.
+    pub(crate) fn with_goals(&self, alloc: Global, goals: &[usize]) -> Result<Clauses, OutOfMemory>
+        ensures { IfOk result (λ clauses. clauses ≡ self.now ++ goal_clause goals.now ∷ []) }
+    {
+        let mut copy = self.copy(alloc)?;
+        let clause = goal_literals(alloc, goals)?;
+        copy.add(alloc, clause.as_slice())?;
+        Ok(copy)
+    }
+
+    fn copy(&self, alloc: Global) -> Result<Clauses, OutOfMemory>
+        ensures { IfOk result (λ clauses. clauses ≡ self.now) }
+    {
+        let mut copy = Clauses::new(alloc);
+        for clause in 0..self.len() {
+            copy.add(alloc, self.get(clause))?;
+        }
+        Ok(copy)
+    }
+
     pub fn len(&self) -> usize
         ensures { result ≡ length self.now }
     {
@@ -61,4 +82,17 @@ impl Clauses {
     {
         self.clauses[clause].as_slice()
     }
+}
+
+fn goal_literals(alloc: Global, goals: &[usize]) -> Result<Vec<Literal>, OutOfMemory>
+    ensures { IfOk result (λ literals. literals.items ≡ goal_clause goals.now) }
+{
+    let mut literals = Vec::with_capacity(alloc, goals.len())?;
+    for goal in goals {
+        literals.push(Literal {
+            part: *goal,
+            value: true,
+        })?;
+    }
+    Ok(literals)
 }

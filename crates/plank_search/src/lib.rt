@@ -2,13 +2,16 @@
 #![tactic(auto)]
 
 mod clauses;
+mod decisions;
 mod hints;
 mod propagation;
 mod rules;
+mod search;
 mod steps;
 mod values;
 
 pub use clauses::{Clauses, Literal};
 pub use hints::Statistics;
 pub use rules::{Look, Rules};
+pub use search::{find, find_any, find_counted};
 pub use values::{Reads, Values};

@@ -119,7 +119,7 @@ pub(crate) fn settle<R: Rules>(
     requires { constraint < R.constraint_count rules.now }
     ensures { Propagates (λ full. R.meaning rules.now constraint full ≡ true) values.old values.new result }
 {
-    loop {
+    'turns: loop {
         match turn(rules, constraint, values, hints) {
             Step::Conflict => {
                 hints.blame_reads();

@@ -3,8 +3,8 @@ use Rattle.std.proofs.Common.{◌≡◌, true}
 use Rattle.plank_search.specs.Assignments.{Narrows, open_count}
 use Rattle.plank_search.proofs.steps.settle.Given as goal
 
-abbrev pub invariant-loop-hints : goal.invariant-loop-hints
-invariant-loop-hints g l = Narrows (λ full. g.R.Rules.meaning l.rules l.constraint full ≡ true) l.initial.values l.values
+abbrev pub invariant-turns : goal.invariant-turns
+invariant-turns g l = Narrows (λ full. g.R.Rules.meaning l.rules l.constraint full ≡ true) l.initial.values l.values
 
-abbrev pub decreases-loop-hints : goal.decreases-loop-hints
-decreases-loop-hints g l = open_count l.values
+abbrev pub decreases-turns : goal.decreases-turns
+decreases-turns g l = open_count l.values
