@@ -28,5 +28,5 @@ pub solved : (m : (ℕ → Bool) → Type 0) (given values : List (Option Bool))
 solved m given values found settled found_is = rw found_is (record {
   meets_all = settled.every.all (full_of (filled values)) (filled-agrees values);
   agrees = settled.within (full_of (filled values)) (filled-agrees values);
-  every_part = length-map values (λ (value : Option Bool). unwrap_or value false) ∙ settled.same_length
+  every_part = length-map values (λ (value : Option Bool). unwrap_or value false) ∙ settled.same_length;
 })

@@ -4,3 +4,5 @@ pub mod Standings
 pub mod Probing
 pub mod Deciding
 pub mod Alternatives
+pub mod Tallies
+pub mod OrderRows

@@ -1,17 +1,12 @@
--- Steps of a search, one after another: what follows from each follows from all.
+-- Values that follow from others: one step after another, and the put of a value that follows.
 use Rattle.std.proofs.Common.{◌≡◌, ◌+◌, ◌<◌, ◌≤◌, ℕ, zero, suc, ◌⊎◌, inl, inr, [], ◌∷◌, Bool, true, false, List, length, refl, sym, subst, ◌∙◌, ap, arith}
 use Rattle.std.specs.Prelude.{Option, Some, None, slice_set}
 use Rattle.std.proofs.Math.ListN.{set, get_or}
 use Rattle.std.proofs.lemmas.List.{get_or-set_same, get_or-set_other, length-set}
 use Rattle.plank_search.specs.Assignments.{value_at, IsOpen, open_count, with_value, Agrees, NoneAgrees, AllAgree, Narrows}
-use Rattle.plank_search.specs.Answers.{Propagates}
-use Rattle.plank_search.specs.Meanings.{MeetsRules, MeetsClauses, Meets, clause_holds}
-use Rattle.plank_search.specs.declared.clauses.Literal.{Literal}
 use Rattle.plank_search.proofs.Assigning.{open-below, with_value-same, with_value-fewer}
 
-pub Narrows-refl : {m : (ℕ → Bool) → Type 0} (values : List (Option Bool)) → Narrows m values values
-Narrows-refl values = record { keeps = λ full meets agrees. agrees; within = λ full agrees. agrees; not_wider = omega arith; same_length = refl }
-
+-- what follows from what follows
 pub Narrows-then : {m : (ℕ → Bool) → Type 0} {a b c : List (Option Bool)} → Narrows m a b → Narrows m b c → Narrows m a c
 Narrows-then first second = record {
   keeps = λ full meets agrees. second.keeps full meets (first.keeps full meets agrees);
@@ -19,28 +14,6 @@ Narrows-then first second = record {
   not_wider = omega (arith, first.not_wider, second.not_wider);
   same_length = second.same_length ∙ first.same_length;
 }
-
-pub Narrows-by : {m n : (ℕ → Bool) → Type 0} {a b : List (Option Bool)} → ((full : ℕ → Bool) → n full → m full) → Narrows m a b → Narrows n a b
-Narrows-by weaker step = record {
-  keeps = λ full meets agrees. step.keeps full (weaker full meets) agrees;
-  within = step.within;
-  not_wider = step.not_wider;
-  same_length = step.same_length;
-}
-
-pub NoneAgrees-then : {m : (ℕ → Bool) → Type 0} {a b : List (Option Bool)} → Narrows m a b → NoneAgrees m b → NoneAgrees m a
-NoneAgrees-then first none = record { contradicts = λ full meets agrees. none.contradicts full meets (first.keeps full meets agrees) }
-
-pub NoneAgrees-by : {m n : (ℕ → Bool) → Type 0} {a : List (Option Bool)} → ((full : ℕ → Bool) → n full → m full) → NoneAgrees m a → NoneAgrees n a
-NoneAgrees-by weaker none = record { contradicts = λ full meets agrees. none.contradicts full (weaker full meets) agrees }
-
-pub Propagates-then : {m : (ℕ → Bool) → Type 0} {a b : List (Option Bool)} (c : List (Option Bool)) (goes : Bool) → Narrows m a b → Propagates m b c goes → Propagates m a c goes
-Propagates-then c true first second = Narrows-then first second
-Propagates-then c false first second = NoneAgrees-then first second
-
-pub Propagates-by : {m n : (ℕ → Bool) → Type 0} (a b : List (Option Bool)) (goes : Bool) → ((full : ℕ → Bool) → n full → m full) → Propagates m a b goes → Propagates n a b goes
-Propagates-by a b true weaker step = Narrows-by weaker step
-Propagates-by a b false weaker step = NoneAgrees-by weaker step
 
 -- who agrees with the values after a put agreed before
 pub with_value-within : (values : List (Option Bool)) (part : ℕ) (value : Bool) → IsOpen values part → (full : ℕ → Bool) → Agrees (with_value values part value) full → Agrees values full
@@ -82,23 +55,3 @@ with_value-narrows values part value open_part follows = record {
   not_wider = omega (arith, with_value-fewer values part value open_part);
   same_length = length-set values part (Some value);
 }
-
--- what follows from one clause follows from all
-pub Propagates-clause : (clauses : List (List Literal)) (clause : ℕ) (one : List Literal) (a b : List (Option Bool)) (goes : Bool) → clause < length clauses → one ≡ get_or clauses clause [] →
-    Propagates (λ full. clause_holds full one ≡ true) a b goes → Propagates (MeetsClauses clauses) a b goes
-Propagates-clause clauses clause one a b goes below e step =
-    Propagates-by a b goes (λ full meets. ap (clause_holds full) e ∙ meets.each clause below) step
-
--- what follows from one constraint follows from all
-pub Propagates-constraint : (meaning : ℕ → (ℕ → Bool) → Bool) (constraints constraint : ℕ) (a b : List (Option Bool)) (goes : Bool) → constraint < constraints →
-    Propagates (λ full. meaning constraint full ≡ true) a b goes → Propagates (MeetsRules meaning constraints) a b goes
-Propagates-constraint meaning constraints constraint a b goes below step =
-    Propagates-by a b goes (λ full meets. meets.each constraint below) step
-
-module _ (meaning : ℕ → (ℕ → Bool) → Bool) (constraints : ℕ) (clauses : List (List Literal)) where
-  -- what follows from the rules, or from the clauses, follows from both
-  pub Propagates-rules : (a b : List (Option Bool)) (goes : Bool) → Propagates (MeetsRules meaning constraints) a b goes → Propagates (Meets meaning constraints clauses) a b goes
-  Propagates-rules a b goes step = Propagates-by a b goes (λ full meets. meets.by_rules) step
-
-  pub Propagates-clauses : (a b : List (Option Bool)) (goes : Bool) → Propagates (MeetsClauses clauses) a b goes → Propagates (Meets meaning constraints clauses) a b goes
-  Propagates-clauses a b goes step = Propagates-by a b goes (λ full meets. meets.by_clauses) step

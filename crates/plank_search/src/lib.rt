@@ -2,6 +2,7 @@
 #![tactic(auto)]
 
 mod clauses;
+mod counts;
 mod decisions;
 mod hints;
 mod propagation;
@@ -11,7 +12,11 @@ mod steps;
 mod values;
 
 pub use clauses::{Clauses, Literal};
+pub use counts::{Count, Counts};
 pub use hints::Statistics;
-pub use rules::{Look, Rules};
+pub use rules::{Look, NoRules, Rules};
 pub use search::{find, find_any, find_counted};
 pub use values::{Reads, Values};
+
+#[cfg(test)]
+mod tests;

@@ -50,3 +50,21 @@ pub trait Rules {
         true
     }
 }
+
+/// Rules of no constraints, for systems of clauses alone.
+#[derive(Clone, Copy, PartialEq, Eq, Debug)]
+pub struct NoRules;
+
+impl Rules for NoRules {
+    ghost constraint_count = { λ _. 0 };
+
+    ghost meaning = { λ _ _ _. true };
+
+    fn constraints(&self) -> usize {
+        0
+    }
+
+    fn look(&self, _constraint: usize, _values: &Values, _reads: &mut Reads) -> Look {
+        Look::Holds
+    }
+}
