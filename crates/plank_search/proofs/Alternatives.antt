@@ -1,10 +1,10 @@
 -- Goals as one more clause: at least one of them is yes.
-use Rattle.std.proofs.Common.{◌≡◌, ◌∙◌, ◌+◌, ◌<◌, ℕ, zero, suc, Bool, true, List, [], ◌∷◌, ◌++◌, ◌||◌, length, get_or, refl, sym, ap, arith, length-append}
+use Rattle.std.proofs.Common.{◌≡◌, ◌∙◌, ◌<◌, ℕ, zero, suc, Bool, true, List, [], ◌∷◌, ◌++◌, ◌||◌, length, refl, sym, ap, arith, length-append}
 use Rattle.std.specs.Prelude.{Option, Some, None, Result, Ok, Err, IfOk, IfSome, IfNone, slice_index_or}
 use Rattle.std.proofs.lemmas.List.{get_or_append_left}
 use Rattle.std.proofs.Math.Seq.{get_or-append_seam}
-use Rattle.plank_search.specs.Assignments.{Agrees, NoneAgrees}
-use Rattle.plank_search.specs.Meanings.{MeetsClauses, Meets, clause_holds, some_goal, goal_clause}
+use Rattle.plank_search.specs.Assignments.{NoneAgrees}
+use Rattle.plank_search.specs.Meanings.{Meets, clause_holds, some_goal, goal_clause}
 use Rattle.plank_search.specs.Answers.{IsSolution, MeetsWithGoal}
 use Rattle.plank_search.specs.declared.clauses.Literal.{Literal}
 

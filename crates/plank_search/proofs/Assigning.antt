@@ -1,8 +1,8 @@
 -- What giving an open part a value changes: who agrees, how many parts are open, and how it is taken back.
-use Rattle.std.proofs.Common.{◌≡◌, ◌≢◌, ◌+◌, ◌<◌, ◌≤◌, ◌⊎◌, ℕ, zero, suc, Bool, true, false, List, [], ◌∷◌, length, map, refl, sym, subst, ◌∙◌, ap, arith, inl, inr, is_none, cond, count_by, sum_by, unwrap_or}
-use Rattle.std.specs.Prelude.{Option, Some, None, slice_set, slice_index_or}
-use Rattle.std.proofs.Math.ListN.{set, get_or}
-use Rattle.std.proofs.lemmas.List.{get_or-set_same, get_or-set_other}
+use Rattle.std.proofs.Common.{◌≡◌, ◌+◌, ◌<◌, ℕ, zero, suc, Bool, false, List, [], ◌∷◌, length, refl, sym, subst, ◌∙◌, ap, arith, is_none, cond, unwrap_or}
+use Rattle.std.specs.Prelude.{Option, Some, None, slice_set}
+use Rattle.std.proofs.Math.ListN.{set}
+use Rattle.std.proofs.lemmas.List.{get_or-set_same}
 use Rattle.std.proofs.lemmas.List.Sums.{sum_by-set}
 use Rattle.plank_search.specs.Assignments.{value_at, IsOpen, open_count, with_value, Agrees, full_of, filled}
 

@@ -1,8 +1,8 @@
 -- A branch of the search: what its failing rules out, and what its success leaves.
-use Rattle.std.proofs.Common.{◌≡◌, ℕ, Bool, true, false, refl, sym, ◌∙◌, ap, subst, map, length}
+use Rattle.std.proofs.Common.{◌≡◌, ℕ, Bool, false, ◌∙◌, ap}
 use Rattle.std.specs.Prelude.{List, Option, not, unwrap_or}
 use Rattle.std.proofs.lemmas.List.{length-map}
-use Rattle.plank_search.specs.Assignments.{IsOpen, with_value, Agrees, AllAgree, NoneAgrees, Narrows, filled, full_of}
+use Rattle.plank_search.specs.Assignments.{IsOpen, with_value, NoneAgrees, Narrows, filled, full_of}
 use Rattle.plank_search.specs.Answers.{Searches, Settles, IsSolution}
 use Rattle.plank_search.proofs.Assigning.{filled-agrees}
 use Rattle.plank_search.proofs.Narrowing.{Narrows-then, with_value-agrees}

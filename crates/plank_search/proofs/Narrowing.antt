@@ -1,10 +1,9 @@
 -- Values that follow from others: one step after another, and the put of a value that follows.
-use Rattle.std.proofs.Common.{◌≡◌, ◌+◌, ◌<◌, ◌≤◌, ℕ, zero, suc, ◌⊎◌, inl, inr, [], ◌∷◌, Bool, true, false, List, length, refl, sym, subst, ◌∙◌, ap, arith}
-use Rattle.std.specs.Prelude.{Option, Some, None, slice_set}
-use Rattle.std.proofs.Math.ListN.{set, get_or}
-use Rattle.std.proofs.lemmas.List.{get_or-set_same, get_or-set_other, length-set}
-use Rattle.plank_search.specs.Assignments.{value_at, IsOpen, open_count, with_value, Agrees, NoneAgrees, AllAgree, Narrows}
-use Rattle.plank_search.proofs.Assigning.{open-below, with_value-same, with_value-fewer}
+use Rattle.std.proofs.Common.{◌≡◌, ℕ, zero, suc, ◌⊎◌, inl, inr, [], ◌∷◌, Bool, false, List, refl, sym, ◌∙◌, ap, arith}
+use Rattle.std.specs.Prelude.{Option, Some, None}
+use Rattle.std.proofs.lemmas.List.{get_or-set_other, length-set}
+use Rattle.plank_search.specs.Assignments.{value_at, IsOpen, with_value, Agrees, Narrows}
+use Rattle.plank_search.proofs.Assigning.{with_value-same, with_value-fewer}
 
 -- what follows from what follows
 pub Narrows-then : {m : (ℕ → Bool) → Type 0} {a b c : List (Option Bool)} → Narrows m a b → Narrows m b c → Narrows m a c

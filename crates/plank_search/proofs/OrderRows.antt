@@ -1,7 +1,7 @@
 -- Rows of the example order: what two known parts say of the third.
 use Rattle.std.proofs.Common.{◌≡◌, ◌+◌, ◌*◌, ◌/◌, ◌%◌, ℕ, Bool, true, false}
-use Rattle.std.specs.Prelude.{List, Option, Some, None, not, ◌&&◌, ◌||◌}
-use Rattle.plank_search.specs.Assignments.{value_at, IsOpen, with_value, Agrees, Narrows}
+use Rattle.std.specs.Prelude.{List, Option, Some, not, ◌&&◌, ◌||◌}
+use Rattle.plank_search.specs.Assignments.{value_at, IsOpen, with_value, Narrows}
 use Rattle.plank_search.specs.ExampleOrder.{order_row}
 use Rattle.plank_search.proofs.Narrowing.{with_value-narrows}
 

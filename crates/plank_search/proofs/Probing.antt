@@ -1,7 +1,7 @@
 -- The two-value look: what a probe that failed rules out.
-use Rattle.std.proofs.Common.{◌≡◌, ◌<◌, ℕ, Bool, true, false, refl, sym, arith, subst, ◌∙◌, ap}
-use Rattle.std.specs.Prelude.{List, Option, Some, None, not}
-use Rattle.plank_search.specs.Assignments.{value_at, IsOpen, open_count, with_value, Agrees, NoneAgrees, Narrows}
+use Rattle.std.proofs.Common.{◌≡◌, ◌<◌, ℕ, Bool, true, false, refl, arith}
+use Rattle.std.specs.Prelude.{List, Option, not}
+use Rattle.plank_search.specs.Assignments.{IsOpen, open_count, with_value, Narrows}
 use Rattle.plank_search.specs.Answers.{Tells, Probes}
 use Rattle.plank_search.specs.declared.rules.Look.{Look}
 use Rattle.plank_search.specs.declared.rules.Look.TheVariants.{Fails, Holds, Needs}

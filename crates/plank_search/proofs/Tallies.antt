@@ -1,9 +1,9 @@
 -- A tally of parts that are read one by one.
-use Rattle.std.proofs.Common.{◌≡◌, ◌∙◌, ◌+◌, ◌<◌, ◌≤◌, ℕ, Bool, true, false, cond, take, length, get_or, count_by, refl, sym, ap, arith}
+use Rattle.std.proofs.Common.{◌≡◌, ◌+◌, ◌<◌, ◌≤◌, ℕ, Bool, true, false, cond, take, length, get_or, count_by, refl, sym, arith}
 use Rattle.std.specs.Prelude.{List, Option, Some, None}
 use Rattle.std.proofs.lemmas.List.{length-take}
 use Rattle.std.proofs.lemmas.List.Sums.{count_by_more_no, count_by_more_yes}
-use Rattle.plank_search.specs.Assignments.{value_at, Agrees}
+use Rattle.plank_search.specs.Assignments.{value_at}
 use Rattle.plank_search.specs.Answers.{IsOpenIfSome}
 use Rattle.plank_search.specs.Counting.{TallyOf, tally_with, earlier_or}
 use Rattle.plank_search.specs.declared.counts.Tally.{Tally}

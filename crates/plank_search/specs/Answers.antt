@@ -1,5 +1,5 @@
 -- What the answers of a look, of a step of the search and of the search itself say.
-use Rattle.std.specs.Prelude.{◌≡◌, ◌<◌, ℕ, not, Bool, true, false, List, length, Option, Some, None}
+use Rattle.std.specs.Prelude.{◌≡◌, ◌<◌, ℕ, Bool, true, false, List, length, Option, Some, None}
 use Rattle.plank_search.specs.Assignments.{Agrees, IsOpen, full_of, NoneAgrees, AllAgree, Narrows, open_count}
 use Rattle.plank_search.specs.declared.rules.Look.{Look}
 use Rattle.plank_search.specs.declared.rules.Look.TheVariants.{Fails, Holds, Needs}

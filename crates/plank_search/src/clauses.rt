@@ -1,4 +1,4 @@
-ghost use Rattle.std.specs.Prelude.{◌≡◌, ◌++◌, ◌∷◌, [], ◌<◌, ℕ, Bool, length, slice_index_or, IfOk, OnOk, OnErr};
+ghost use Rattle.std.specs.Prelude.{◌≡◌, ◌++◌, ◌∷◌, [], ◌<◌, length, slice_index_or, IfOk, OnOk, OnErr};
 ghost use Rattle.plank_search.specs.Meanings.{goal_clause};
 
 use plank_base::{OutOfMemory, Sequence};
@@ -8,7 +8,9 @@ use std::marker::Model;
 /// That a part has a value.
 #[derive(Clone, Copy, PartialEq, Eq, Debug)]
 pub struct Literal {
+    /// The number of the part. A part past the last is no.
     pub part: usize,
+    /// The value that it has where the literal holds.
     pub value: bool,
 }
 
@@ -69,6 +71,7 @@ impl Clauses {
         Ok(copy)
     }
 
+    /// How many clauses there are.
     pub fn len(&self) -> usize
         ensures { result ≡ length self.now }
     {

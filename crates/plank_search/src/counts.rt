@@ -1,7 +1,5 @@
-ghost use Rattle.std.specs.Prelude.{◌≡◌, ◌++◌, ◌∷◌, ◌+◌, ◌^◌, ◌<◌, ◌≤◌, [], ℕ, Bool, true, length, None, OnOk, OnErr, count_by};
-ghost use Rattle.plank_search.specs.Assignments.{IsOpen};
-ghost use Rattle.plank_search.specs.Answers.{Tells, Propagates, IsOpenIfSome};
-ghost use Rattle.plank_search.specs.Meanings.{MeetsRules};
+ghost use Rattle.std.specs.Prelude.{◌≡◌, ◌++◌, ◌∷◌, ◌+◌, ◌^◌, ◌<◌, [], true, length, None, OnOk, OnErr};
+ghost use Rattle.plank_search.specs.Answers.{Tells};
 ghost use Rattle.plank_search.specs.Counting.{count_holds, count_at, TallyOf, tally_with, earlier_or};
 
 use crate::rules::{Look, Rules};
@@ -14,8 +12,11 @@ use std::marker::Model;
 /// twice.
 #[derive(Debug, Drop)]
 pub struct Count {
+    /// The parts that are counted.
     pub parts: Sequence<usize>,
+    /// The least number that is allowed; more than there are parts allows nothing.
     pub least: usize,
+    /// The greatest number that is allowed.
     pub most: usize,
 }
 
@@ -62,6 +63,7 @@ impl Counts {
         Ok(())
     }
 
+    /// How many constraints there are.
     pub fn len(&self) -> usize
         ensures { result ≡ length self.now }
     {

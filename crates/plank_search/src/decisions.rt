@@ -1,4 +1,4 @@
-ghost use Rattle.std.specs.Prelude.{◌≡◌, ◌⊎◌, ◌<◌, ℕ, Bool, true, Some, IfSome};
+ghost use Rattle.std.specs.Prelude.{◌≡◌, ◌<◌, Some};
 ghost use Rattle.plank_search.specs.Assignments.{IsOpen};
 ghost use Rattle.plank_search.specs.Meanings.{MeetsRules, MeetsClauses, Meets};
 ghost use Rattle.plank_search.specs.Answers.{Tells, IsOpenIfSome, look_for};

@@ -1,4 +1,4 @@
-ghost use Rattle.std.specs.Prelude.{◌≡◌, ◌<◌, ℕ, Bool, true};
+ghost use Rattle.std.specs.Prelude.{◌<◌, true};
 ghost use Rattle.plank_search.specs.Meanings.{MeetsRules, MeetsClauses, Meets};
 ghost use Rattle.plank_search.specs.Answers.{Propagates};
 

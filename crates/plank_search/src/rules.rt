@@ -22,8 +22,10 @@ pub enum Look {
 /// parts on demand. A family of many small rules is a closure: `apply` puts what follows, and `look`
 /// answers each row of the family, so that the last pass sees it.
 pub trait Rules {
+    // How many constraints there are.
     ghost constraint_count: { Self → ℕ };
 
+    // Whether a constraint, by its number, is true of a full assignment.
     ghost meaning: { Self → ℕ → (ℕ → Bool) → Bool };
 
     /// How many constraints there are, the rows of closures included.

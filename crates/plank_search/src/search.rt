@@ -1,6 +1,6 @@
-ghost use Rattle.std.specs.Prelude.{◌≡◌, ℕ, Bool, true, not, IfOk, IfSome, IfNone};
+ghost use Rattle.std.specs.Prelude.{◌≡◌, true, IfOk, IfSome, IfNone};
 ghost use Rattle.plank_search.specs.Assignments.{IsOpen, NoneAgrees, with_value};
-ghost use Rattle.plank_search.specs.Meanings.{Meets, some_goal};
+ghost use Rattle.plank_search.specs.Meanings.{Meets};
 ghost use Rattle.plank_search.specs.Answers.{Searches, IsSolution, MeetsWithGoal};
 
 use crate::clauses::Clauses;

@@ -1,7 +1,7 @@
-ghost use Rattle.std.specs.Prelude.{◌≡◌, ◌<◌, ℕ, Bool, true, not, List, [], length, slice_index_or, IfSome};
-ghost use Rattle.plank_search.specs.Assignments.{IsOpen, open_count, with_value};
-ghost use Rattle.plank_search.specs.Meanings.{MeetsRules, MeetsClauses, Meets, clause_holds};
-ghost use Rattle.plank_search.specs.Answers.{Tells, Propagates, Steps, Probes, Stands};
+ghost use Rattle.std.specs.Prelude.{◌≡◌, ◌<◌, true};
+ghost use Rattle.plank_search.specs.Assignments.{IsOpen};
+ghost use Rattle.plank_search.specs.Meanings.{clause_holds};
+ghost use Rattle.plank_search.specs.Answers.{Propagates, Steps, Probes, Stands};
 
 use crate::clauses::{Clauses, Literal};
 use crate::hints::Hints;

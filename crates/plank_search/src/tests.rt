@@ -1,4 +1,4 @@
-ghost use Rattle.std.specs.Prelude.{◌≡◌, ◌<◌, ◌/◌, ◌%◌, ℕ, Bool, true, Some};
+ghost use Rattle.std.specs.Prelude.{◌≡◌, ◌<◌, ◌/◌, ◌%◌, true, Some};
 ghost use Rattle.plank_search.specs.Assignments.{value_at};
 ghost use Rattle.plank_search.specs.Answers.{Tells, Propagates};
 ghost use Rattle.plank_search.specs.Meanings.{MeetsRules};

@@ -1,5 +1,5 @@
-ghost use Rattle.std.specs.Prelude.{◌≡◌, ◌+◌, ◌↔◌, ℕ, Bool, length, map, is_none, None, IfOk, IfSome, slice_set, slice_index_or};
-ghost use Rattle.plank_search.specs.Assignments.{value_at, IsOpen, open_count, with_value, Agrees, filled};
+ghost use Rattle.std.specs.Prelude.{◌≡◌, ◌+◌, Bool, length, None, IfOk, slice_set};
+ghost use Rattle.plank_search.specs.Assignments.{value_at, IsOpen, with_value, filled};
 
 use plank_base::{OutOfMemory, Sequence};
 use std::alloc::Global;
@@ -40,6 +40,7 @@ impl Values {
         })
     }
 
+    /// How many parts there are.
     pub fn len(&self) -> usize
         ensures { result ≡ length self.now }
     {

@@ -1,7 +1,3 @@
-use Rattle.std.proofs.Common.{◌≡◌, false}
-use Rattle.plank_search.specs.Answers.{Searches}
-use Rattle.plank_search.specs.Meanings.{Meets}
-use Rattle.plank_search.specs.Assignments.{Narrows, IsOpen}
 use Rattle.plank_search.proofs.Deciding.{branch_failed}
 use Rattle.plank_search.proofs.Narrowing.{Narrows-then}
 use Rattle.plank_search.proofs.search.+solve.Goals as goal

@@ -1,6 +1,3 @@
-use Rattle.plank_search.specs.Assignments.{NoneAgrees}
-use Rattle.plank_search.specs.Meanings.{Meets}
-use Rattle.plank_search.specs.Answers.{IsSolution, MeetsWithGoal}
 use Rattle.plank_search.proofs.Alternatives.{of_found, of_none, solution_with_goal, none_with_goal}
 use Rattle.plank_search.proofs.search.find_any.Goals as goal
 

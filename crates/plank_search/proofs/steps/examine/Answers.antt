@@ -1,8 +1,5 @@
-use Rattle.std.proofs.Common.{◌≡◌, ◌∙◌, sym, subst, false, ℕ, Bool, take, length, ◌+◌}
-use Rattle.std.specs.Prelude.{Option}
-use Rattle.plank_search.specs.Meanings.{clause_holds}
-use Rattle.plank_search.specs.declared.clauses.Literal.{Literal}
-use Rattle.plank_search.proofs.Standings.{IsOpenLiteral, open_holds, broken-literal, more-false, more-open}
+use Rattle.std.proofs.Common.{◌∙◌, sym}
+use Rattle.plank_search.proofs.Standings.{broken-literal, more-false, more-open}
 use Rattle.plank_search.proofs.steps.examine.Goals as goal
 use Rattle.plank_search.proofs.steps.examine.Goals.{in-Some+else-value-literal, in-None+else-is_some}
 

@@ -1,6 +1,6 @@
 -- Of the literals so far each is false of all that agree, except the open one.
-use Rattle.std.proofs.Common.{◌≡◌, ℕ, Bool, false, take, Option}
-use Rattle.plank_search.specs.Assignments.{Agrees, IsOpen}
+use Rattle.std.proofs.Common.{◌≡◌, ℕ, Bool, take}
+use Rattle.plank_search.specs.Assignments.{Agrees}
 use Rattle.plank_search.specs.Meanings.{clause_holds}
 use Rattle.plank_search.proofs.Standings.{open_holds, IsOpenLiteral}
 use Rattle.plank_search.proofs.steps.examine.Given as goal

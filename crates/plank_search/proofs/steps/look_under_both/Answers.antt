@@ -1,7 +1,4 @@
-use Rattle.std.proofs.Common.{◌≡◌, ◌∙◌, ap, subst, true, false}
-use Rattle.std.specs.Prelude.{List, Option, Bool}
-use Rattle.plank_search.specs.Answers.{Probes}
-use Rattle.plank_search.specs.Assignments.{Narrows, open_count}
+use Rattle.std.proofs.Common.{true, false}
 use Rattle.plank_search.proofs.Probing.{ruled_out}
 use Rattle.plank_search.proofs.steps.look_under_both.Goals as goal
 

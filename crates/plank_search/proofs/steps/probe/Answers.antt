@@ -1,4 +1,4 @@
-use Rattle.std.proofs.Common.{◌≡◌, ◌∙◌, ap}
+use Rattle.std.proofs.Common.{◌∙◌, ap}
 use Rattle.std.specs.Prelude.{List, Option, Bool, None, slice_set}
 use Rattle.plank_search.proofs.Assigning.{with_value-reopened}
 use Rattle.plank_search.proofs.Probing.{probed}

@@ -1,5 +1,5 @@
 -- What is filled so far, and what is left, make the whole.
-use Rattle.std.proofs.Common.{◌≡◌, map, take, false, Option, Bool, unwrap_or}
+use Rattle.std.proofs.Common.{◌≡◌, map, take, false, unwrap_or}
 use Rattle.plank_search.proofs.values.Values.fill.Given as goal
 
 abbrev pub invariant-loop-value : goal.invariant-loop-value
