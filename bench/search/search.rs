@@ -76,6 +76,7 @@ impl Values {
         })
     }
 
+    /// How many parts there are.
     pub fn len(&self) -> usize {
         self.cells.len()
     }
@@ -202,7 +203,9 @@ impl Reads {
 /// That a part has a value.
 #[derive(Clone, Copy, PartialEq, Eq, Debug)]
 pub struct Literal {
+    /// The number of the part. A part past the last is no.
     pub part: usize,
+    /// The value that it has where the literal holds.
     pub value: bool,
 }
 
@@ -249,6 +252,7 @@ impl Clauses {
         Ok(copy)
     }
 
+    /// How many clauses there are.
     pub fn len(&self) -> usize {
         self.clauses.len()
     }
@@ -288,6 +292,10 @@ pub enum Look {
 /// parts on demand. A family of many small rules is a closure: `apply` puts what follows, and `look`
 /// answers each row of the family, so that the last pass sees it.
 pub trait Rules {
+    // How many constraints there are.
+
+    // Whether a constraint, by its number, is true of a full assignment.
+
     /// How many constraints there are, the rows of closures included.
     fn constraints(&self) -> usize;
 
@@ -615,8 +623,11 @@ impl Occurrences {
 /// twice.
 #[derive(Debug)]
 pub struct Count {
+    /// The parts that are counted.
     pub parts: Sequence<usize>,
+    /// The least number that is allowed; more than there are parts allows nothing.
     pub least: usize,
+    /// The greatest number that is allowed.
     pub most: usize,
 }
 
@@ -647,6 +658,7 @@ impl Counts {
         Ok(())
     }
 
+    /// How many constraints there are.
     pub fn len(&self) -> usize {
         self.counts.len()
     }
