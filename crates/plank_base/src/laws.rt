@@ -3,7 +3,8 @@ ghost use Rattle.plank_base.specs.Paths.{Path, EndsAt, NeverEnds, IsOnCycle, off
 
 /// Laws of the paths of a partial function: of walks of keys and of chains of frozen nodes. It does nothing.
 pub fn path_laws()
-    ensures one_line { (f : ℕ → Option ℕ) (a b c : ℕ) → Path f a b → Path f a c → Path f b c ⊎ Path f c b }
+    ensures one_line { (f : ℕ → Option ℕ) (a b c : ℕ) →
+        Path f a b → Path f a c → Path f b c ⊎ Path f c b }
     ensures one_end { (f : ℕ → Option ℕ) (a b c : ℕ) → EndsAt f a b → EndsAt f a c → b ≡ c }
     ensures wider { (f g : ℕ → Option ℕ) (a b : ℕ) → Extends f g → Path f a b → Path g a b }
 
