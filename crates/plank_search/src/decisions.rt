@@ -10,7 +10,8 @@ use crate::steps::{Standing, examine};
 use crate::values::Values;
 
 /// The part to split on. It is the most blamed of those that constraints wait for; where none
-/// waits, the last pass looks at everything once more.
+/// waits, one that the last pass postponed; and where none is left, that pass looks at everything
+/// once more.
 pub(crate) fn decide<R: Rules>(
     rules: &R,
     clauses: &Clauses,
@@ -21,7 +22,32 @@ pub(crate) fn decide<R: Rules>(
 {
     match most_blamed_waiting(values, hints) {
         Some(part) => Look::Needs(part),
-        None => last_pass(rules, clauses, values, hints),
+        None => match next_postponed(values, hints) {
+            Some(part) => Look::Needs(part),
+            None => last_pass(rules, clauses, values, hints),
+        },
+    }
+}
+
+fn next_postponed(values: &Values, hints: &mut Hints) -> Option<usize>
+    ensures { IsOpenIfSome values.now result }
+{
+    for _ in 0..hints.postponed_count() {
+        let part = if_open(values, hints.take_postponed());
+        if part.is_some() {
+            return part;
+        }
+    }
+    None
+}
+
+fn if_open(values: &Values, part: Option<usize>) -> Option<usize>
+    ensures { IsOpenIfSome values.now result }
+{
+    let part = part?;
+    match values.get(part) {
+        None => Some(part),
+        Some(_) => None,
     }
 }
 
@@ -90,7 +116,10 @@ fn pass_over_constraints<R: Rules>(rules: &R, values: &Values, hints: &mut Hints
         match rules.look(constraint, values, &mut hints.reads) {
             Look::Fails => return Look::Fails,
             Look::Holds => {}
-            Look::Needs(part) => need = Some(more_blamed(values, hints, need, part)),
+            Look::Needs(part) => {
+                hints.postpone(part);
+                need = Some(more_blamed(values, hints, need, part));
+            }
         }
     }
     look_of(need)

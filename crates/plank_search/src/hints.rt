@@ -30,6 +30,8 @@ pub(crate) struct Hints {
     pub(crate) occurrences: Occurrences,
     pub(crate) reads: Reads,
     pub(crate) statistics: Statistics,
+    // The parts that the last pass over the constraints needed, to be split on before the next pass.
+    postponed: Vec<usize>,
     // How often each part stood in something that failed.
     blame: Vec<u64>,
     // The parts that are tried yes first.
@@ -54,6 +56,7 @@ impl Hints {
             occurrences: Occurrences::new(alloc, clauses, parts)?,
             reads: Reads::new(alloc, parts)?,
             statistics: Statistics::new(),
+            postponed: Vec::new(alloc),
             blame: vec![in alloc; 0; parts]?,
             goals: tried_yes,
         })
@@ -62,6 +65,21 @@ impl Hints {
     /// The value that a part is tried with first.
     pub(crate) fn first_value(&self, part: usize) -> bool {
         part < self.goals.len() && self.goals[part]
+    }
+
+    /// Notes a part that the pass over the constraints needs.
+    pub(crate) fn postpone(&mut self, part: usize) {
+        let _ = self.postponed.push(part);
+    }
+
+    /// A part that was postponed.
+    pub(crate) fn take_postponed(&mut self) -> Option<usize> {
+        self.postponed.pop()
+    }
+
+    /// How many parts are postponed.
+    pub(crate) fn postponed_count(&self) -> usize {
+        self.postponed.len()
     }
 
     /// How often a part was blamed.
