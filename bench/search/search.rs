@@ -357,6 +357,8 @@ pub(crate) struct Hints {
     pub(crate) occurrences: Occurrences,
     pub(crate) reads: Reads,
     pub(crate) statistics: Statistics,
+    // The parts that the last pass over the constraints needed, to be split on before the next pass.
+    postponed: Vec<usize>,
     // How often each part stood in something that failed.
     blame: Vec<u64>,
     // The parts that are tried yes first.
@@ -381,6 +383,7 @@ impl Hints {
             occurrences: Occurrences::new(alloc, clauses, parts)?,
             reads: Reads::new(alloc, parts)?,
             statistics: Statistics::new(),
+            postponed: Vec::new(),
             blame: vec![0; parts],
             goals: tried_yes,
         })
@@ -389,6 +392,21 @@ impl Hints {
     /// The value that a part is tried with first.
     pub(crate) fn first_value(&self, part: usize) -> bool {
         part < self.goals.len() && self.goals[part]
+    }
+
+    /// Notes a part that the pass over the constraints needs.
+    pub(crate) fn postpone(&mut self, part: usize) {
+        let _ = self.postponed.push(part);
+    }
+
+    /// A part that was postponed.
+    pub(crate) fn take_postponed(&mut self) -> Option<usize> {
+        self.postponed.pop()
+    }
+
+    /// How many parts are postponed.
+    pub(crate) fn postponed_count(&self) -> usize {
+        self.postponed.len()
     }
 
     /// How often a part was blamed.
@@ -1024,7 +1042,8 @@ fn wake_constraint<R: Rules>(
 }
 
 /// The part to split on. It is the most blamed of those that constraints wait for; where none
-/// waits, the last pass looks at everything once more.
+/// waits, one that the last pass postponed; and where none is left, that pass looks at everything
+/// once more.
 pub(crate) fn decide<R: Rules>(
     rules: &R,
     clauses: &Clauses,
@@ -1033,7 +1052,28 @@ pub(crate) fn decide<R: Rules>(
 ) -> Look {
     match most_blamed_waiting(values, hints) {
         Some(part) => Look::Needs(part),
-        None => last_pass(rules, clauses, values, hints),
+        None => match next_postponed(values, hints) {
+            Some(part) => Look::Needs(part),
+            None => last_pass(rules, clauses, values, hints),
+        },
+    }
+}
+
+fn next_postponed(values: &Values, hints: &mut Hints) -> Option<usize> {
+    for _ in 0..hints.postponed_count() {
+        let part = if_open(values, hints.take_postponed());
+        if part.is_some() {
+            return part;
+        }
+    }
+    None
+}
+
+fn if_open(values: &Values, part: Option<usize>) -> Option<usize> {
+    let part = part?;
+    match values.get(part) {
+        None => Some(part),
+        Some(_) => None,
     }
 }
 
@@ -1089,7 +1129,10 @@ fn pass_over_constraints<R: Rules>(rules: &R, values: &Values, hints: &mut Hints
         match rules.look(constraint, values, &mut hints.reads) {
             Look::Fails => return Look::Fails,
             Look::Holds => {}
-            Look::Needs(part) => need = Some(more_blamed(values, hints, need, part)),
+            Look::Needs(part) => {
+                hints.postpone(part);
+                need = Some(more_blamed(values, hints, need, part));
+            }
         }
     }
     look_of(need)
