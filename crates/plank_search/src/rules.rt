@@ -66,7 +66,11 @@ impl Rules for NoRules {
         0
     }
 
-    fn look(&self, _constraint: usize, _values: &Values, _reads: &mut Reads) -> Look {
+    // It may be asked of any number, so that there are calls that meet its contract.
+    fn look(&self, _constraint: usize, values: &Values, _reads: &mut Reads) -> Look
+        ensures { Tells (λ _. true ≡ true) values.now result }
+    {
+        let _ = values;
         Look::Holds
     }
 }
