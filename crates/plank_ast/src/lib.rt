@@ -5,6 +5,7 @@ mod condition_spelling;
 mod conditions;
 mod header;
 mod header_spelling;
+mod laws;
 mod layout;
 mod methods;
 mod names;
@@ -22,6 +23,7 @@ pub use header::{
     ConditionLine, Direction, FlagLine, NamedCondition, PointerLine, RootLine, StartItem, StartKey,
     StartLine, StartValue,
 };
+pub use laws::print_keeps_tokens;
 pub use methods::{Method, Methods, Variables};
 pub use names::{Field, Name, Reference, Truth};
 pub use printing::print;
