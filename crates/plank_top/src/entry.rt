@@ -13,7 +13,7 @@ use crate::status::Status;
 use crate::words::{Command, command_of};
 use plank_base::{BYTES_LIMIT, OutOfMemory, Thing};
 use plank_io::{Gate, Reading, Sink, Source, Written, read_up_to, write_all};
-use plank_sem::answers_false_without_insert_law;
+use plank_sem::laws::answers_false_without_insert_law;
 use std::alloc::Global;
 
 /// Writes a reply whole, and answers its status or the sink's fault.
