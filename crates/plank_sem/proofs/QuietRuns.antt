@@ -52,7 +52,7 @@ action_quiet : (methods : List Method) (call : Call) (action : Action) → Answe
 action_quiet methods call action all at =
     let found = mapped (λ (l : Location). l.action) (option_and_then (λ (m : Method). slice_get m.locations call.location) (slice_get methods call.method)) action at in
     sym found.2 ∙ option_and_then_some (λ (m : Method). slice_get m.locations call.location) (slice_get methods call.method) found.0 found.1
-      (λ m called here. found_of_all (λ (l : Location). l.action ≡ Action.Return false) m.locations call.location found.0 (found_of_all IsQuietMethod methods call.method m all called).1 here)
+    (λ m called here. found_of_all (λ (l : Location). l.action ≡ Action.Return false) m.locations call.location found.0 (found_of_all IsQuietMethod methods call.method m all called).1 here)
 
 told_of : (event told : Option Event) (w after : WorldState) → stepped event w ≡ stepped told after → event ≡ told
 told_of event told w after e = cc

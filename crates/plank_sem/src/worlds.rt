@@ -113,7 +113,10 @@ impl World {
         ensures null { result ≡ Err StepFault.NullRead → acted program.now.methods self.old thread (Act.Invoke method key) ≡ null_read }
         ensures err { OnErr result (self.new ≡ self.old) }
     {
-        match (self.calls.get(thread), program.methods.as_slice().get(method as usize)) {
+        match (
+            self.calls.get(thread),
+            program.methods.as_slice().get(method as usize),
+        ) {
             (None, Some(called)) => {
                 let op = called.op;
                 match self.calls.insert(thread, Call::fresh(method, key)) {
@@ -139,14 +142,21 @@ impl World {
         };
         match action_at(program, &call) {
             Some(Action::Block(block)) => self.run_block(thread, &call, block),
-            Some(Action::Copy { to, from, next }) => Ok(self.copy(thread, &call, *to, *from, *next)),
+            Some(Action::Copy { to, from, next }) => Ok(self.copy(
+                thread, &call, *to, *from, *next,
+            )),
             Some(Action::New { to, next }) => self.allocate(thread, &call, *to, *next),
             Some(Action::Return(answer)) => Ok(self.answer(thread, &call, *answer)),
             None => Err(StepFault::NoSuchThread),
         }
     }
 
-    fn run_block(&mut self, thread: ThreadId, call: &Call, block: &Block) -> Result<Stepped, StepFault>
+    fn run_block(
+        &mut self,
+        thread: ThreadId,
+        call: &Call,
+        block: &Block,
+    ) -> Result<Stepped, StepFault>
         requires pending { IsSome (map.get self.old.calls thread.0) }
         requires binds { All (λ d. d.to < VARIABLES) block.now.binds }
         requires writes { All HasRoom block.now.writes }
@@ -174,7 +184,13 @@ impl World {
         Stepped { event: None }
     }
 
-    fn allocate(&mut self, thread: ThreadId, call: &Call, to: u8, next: u32) -> Result<Stepped, StepFault>
+    fn allocate(
+        &mut self,
+        thread: ThreadId,
+        call: &Call,
+        to: u8,
+        next: u32,
+    ) -> Result<Stepped, StepFault>
         requires few { length self.old.heap.nodes < 2 ^ 32 - 1 }
         requires pending { IsSome (map.get self.old.calls thread.0) }
         requires variable { to < VARIABLES }
