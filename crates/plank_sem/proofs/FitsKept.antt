@@ -1,11 +1,11 @@
 -- A step of a lawful program leads from a world that fits to one that fits.
-use Rattle.std.proofs.Common.{◌≡◌, ℕ, ◌+◌, ◌<◌, ◌≤◌, Bool, true, false, List, [], ◌∷◌, ◌++◌, length, set, replicate, ℤ, zero, suc, Option, Some, None, refl, sym, ap, ◌∙◌, subst, inl, inr, arith, length-append, length-set}
-use Rattle.std.specs.Prelude.{slice_get, slice_set, ◌&&◌, option_and_then, option_map, if◌then◌else◌, Result, Ok, Err, IfOk, OnErr}
+use Rattle.std.proofs.Common.{◌≡◌, ℕ, ◌<◌, ◌≤◌, Bool, true, false, List, [], ◌∷◌, length, replicate, ℤ, zero, suc, Option, Some, None, refl, sym, ap, ◌∙◌, subst, inl, inr, arith, length-append, length-set}
+use Rattle.std.specs.Prelude.{slice_get, slice_set, option_map, if◌then◌else◌, Result, Ok, Err, IfOk, OnErr}
 use Rattle.std.specs.Option.{option_map_or}
-use Rattle.std.specs.FinMap.{get, insert, remove, empty, get-empty}
+use Rattle.std.specs.FinMap.{get, insert, empty, get-empty}
 use Rattle.std.specs.Ordering.{nat_cmp}
 use Rattle.std.proofs.lemmas.Bool.{and_parts, ltb-true}
-use Rattle.std.proofs.lemmas.Option.{none-some, same_Some, slice_get_within, option_and_then_some}
+use Rattle.std.proofs.lemmas.Option.{none-some, same_Some, option_and_then_some}
 use Rattle.plank_base.specs.declared.keys.NodeId.{NodeId}
 use Rattle.plank_base.specs.declared.keys.ThreadId.{ThreadId}
 use Rattle.plank_prog.specs.declared.headers.Header.{Header}
@@ -14,12 +14,11 @@ use Rattle.plank_prog.specs.declared.blocks.Write.{Write}
 use Rattle.plank_prog.specs.declared.blocks.Block.{Block}
 use Rattle.plank_prog.specs.declared.methods.Action.{Action}
 use Rattle.plank_prog.specs.declared.methods.Method.{Method}
-use Rattle.plank_prog.specs.Headers.{is_lawful_header}
 use Rattle.plank_prog.specs.Methods.{are_lawful_methods, is_lawful_method}
 use Rattle.plank_heap.specs.declared.nodes.Node.{Node}
 use Rattle.plank_heap.specs.declared.heaps.Heap.{Heap}
 use Rattle.plank_heap.specs.Heaps.{IsClosed, LeadsWithin}
-use Rattle.plank_heap.specs.Changes.{with_node, with_fresh_node, fresh_node, with_pointer}
+use Rattle.plank_heap.specs.Changes.{with_node, with_fresh_node, fresh_node}
 use Rattle.plank_hist.specs.declared.events.Event.{Event}
 use Rattle.plank_sem.specs.declared.calls.Call.{Call}
 use Rattle.plank_sem.specs.declared.steps.Act.{Act}
@@ -28,13 +27,13 @@ use Rattle.plank_sem.specs.declared.steps.Choice.{Choice}
 use Rattle.plank_sem.specs.declared.steps.Stepped.{Stepped}
 use Rattle.plank_sem.specs.declared.steps.StepFault.{StepFault}
 use Rattle.plank_sem.specs.Worlds.{WorldState, Calls, fresh_call}
-use Rattle.plank_sem.specs.Reads.{named, value_of, tests_value}
+use Rattle.plank_sem.specs.Reads.{value_of, tests_value}
 use Rattle.plank_sem.specs.Actions.{After, gone_to, bound, changed, changed_by, written, written_in, taken_yes, taken_no, block_run, copied, allocated}
-use Rattle.plank_sem.specs.Steps.{Next, stepped, refused, null_read, begun, went_on, ended, performed, action_of, gone_on, acted, next}
+use Rattle.plank_sem.specs.Steps.{stepped, refused, begun, went_on, ended, performed, action_of, gone_on, acted, next}
 use Rattle.plank_sem.specs.Fits.{AllNamed, CallFits, Fits}
 use Rattle.plank_sem.proofs.Lists.{passes_at, found_after_set, found_after_push}
 use Rattle.plank_sem.proofs.CallMaps.{found_after_insert, found_after_remove}
-use Rattle.plank_sem.proofs.NamedNodes.{all_named_set, LeadsAlong, named_in, value_in, bound_in}
+use Rattle.plank_sem.proofs.NamedNodes.{all_named_set, LeadsAlong, value_in, bound_in}
 use Rattle.plank_sem.proofs.LawfulActions.{StandsAt, stands_at, block_yes, block_no}
 
 -- ---- heaps

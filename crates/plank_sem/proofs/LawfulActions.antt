@@ -1,8 +1,8 @@
 -- What a lawful program says of the action at the location of a call: the numbers in it are in range.
-use Rattle.std.proofs.Common.{◌≡◌, ℕ, ◌<◌, ◌≤◌, Bool, true, List, length, Option, Some, None, refl, sym, ap, ◌∙◌, subst, ltb, leb, arith}
-use Rattle.std.specs.Prelude.{All, slice_get, ◌&&◌, nat_lt, nat_le, option_map, option_and_then}
+use Rattle.std.proofs.Common.{◌≡◌, ℕ, ◌<◌, ◌≤◌, true, List, length, Some, subst, arith}
+use Rattle.std.specs.Prelude.{All, slice_get, option_and_then}
 use Rattle.std.proofs.lemmas.Bool.{and_parts, ltb-true, leb-true}
-use Rattle.std.proofs.lemmas.Option.{none-some, option_and_then_some}
+use Rattle.std.proofs.lemmas.Option.{option_and_then_some}
 use Rattle.plank_prog.specs.declared.headers.Header.{Header}
 use Rattle.plank_prog.specs.declared.blocks.Value.{Value}
 use Rattle.plank_prog.specs.declared.blocks.Bind.{Bind}
@@ -66,15 +66,18 @@ module _ (h : Header) (variables locations : ℕ) (b : Block) (lawful : is_lawfu
   binds_in_range few =
       All-from_list_all (bind_fits h variables) (λ d. d.to < 6) (bind_in_range few) b.binds (and_parts _ _ (and_parts _ _ block_parts).0).1
 
-below_limit : (n m limit : ℕ) → n < m → m ≤ limit → n < limit
-below_limit n m limit below few = omega arith
+below_eight : (n m : ℕ) → n < m → m ≤ 3 → n < 8
+below_eight n m below few = omega arith
+
+below_two : (n m : ℕ) → n < m → m ≤ 2 → n < 2
+below_two n m below few = omega arith
 
 has_room : (h : Header) (variables : ℕ) (w : Write) → is_header_within_limits h ≡ true → write_fits h variables w ≡ true → HasRoom w
 has_room h variables (Write.Flag r flag to) limits fits =
-    below_limit flag (length h.flags) 3 (ltb-true flag (length h.flags) (and_parts _ _ fits).1)
+    below_eight flag (length h.flags) (ltb-true flag (length h.flags) (and_parts _ _ fits).1)
     (leb-true (length h.flags) 3 (and_parts _ _ (and_parts _ _ limits).0).0)
 has_room h variables (Write.Pointer r pointer to) limits fits =
-    below_limit pointer (length h.pointers) 2 (ltb-true pointer (length h.pointers) (and_parts _ _ (and_parts _ _ fits).0).1)
+    below_two pointer (length h.pointers) (ltb-true pointer (length h.pointers) (and_parts _ _ (and_parts _ _ fits).0).1)
     (leb-true (length h.pointers) 2 (and_parts _ _ (and_parts _ _ limits).0).1)
 has_room h variables (Write.TakeLock r) limits fits = tt
 has_room h variables (Write.FreeLock r) limits fits = tt

@@ -1,9 +1,9 @@
 -- Heaps with owners: no other node points to a node that is not shared. Kept by writes and by allocations.
-use Rattle.std.proofs.Common.{◌≡◌, ◌≢◌, ℕ, zero, suc, ◌+◌, ◌<◌, ◌≤◌, ◌⊎◌, ℤ, Bool, true, false, List, [], ◌∷◌, ◌++◌, length, set, Option, Some, None, refl, sym, ap, ◌∙◌, subst, inl, inr, arith, length-set, length-append}
-use Rattle.std.specs.Prelude.{slice_get, slice_set, option_and_then, option_map, if◌then◌else◌}
+use Rattle.std.proofs.Common.{◌≡◌, ℕ, zero, suc, ◌+◌, ◌<◌, ℤ, Bool, true, false, List, [], ◌∷◌, ◌++◌, length, set, Option, Some, None, refl, sym, ap, ◌∙◌, subst, inl, inr, arith, length-set, length-append}
+use Rattle.std.specs.Prelude.{slice_get, option_map, if◌then◌else◌}
 use Rattle.std.specs.Option.{option_map_or}
 use Rattle.std.proofs.lemmas.Bool.{cases_eq}
-use Rattle.std.proofs.lemmas.Option.{none-some, same_Some, slice_get_within, slice_get_cases, option_and_then_some}
+use Rattle.std.proofs.lemmas.Option.{none-some, same_Some, slice_get_cases, option_and_then_some}
 use Rattle.plank_base.specs.declared.keys.NodeId.{NodeId}
 use Rattle.plank_base.specs.declared.keys.ThreadId.{ThreadId}
 use Rattle.plank_base.specs.Paths.{Path, here, onward}
@@ -13,17 +13,16 @@ use Rattle.plank_prog.specs.declared.blocks.Write.{Write}
 use Rattle.plank_prog.specs.Views.{admits}
 use Rattle.plank_heap.specs.declared.nodes.Node.{Node}
 use Rattle.plank_heap.specs.declared.heaps.Heap.{Heap}
-use Rattle.plank_heap.specs.Heaps.{IsClosed, LeadsWithin, start_heap, start_node}
-use Rattle.plank_heap.specs.Walks.{first_admitted, next_from, next, WalkVisits}
+use Rattle.plank_heap.specs.Heaps.{IsClosed, start_heap}
+use Rattle.plank_heap.specs.Walks.{first_admitted, next_from, next}
 use Rattle.plank_heap.specs.Changes.{with_node, with_fresh_node, fresh_node}
 use Rattle.plank_sem.specs.declared.calls.Call.{Call}
-use Rattle.plank_sem.specs.Reads.{named, value_of}
 use Rattle.plank_sem.specs.Actions.{changed, changed_by, written, written_in}
 use Rattle.plank_sem.specs.Kept.{IsShared, IsOwn, shared_by_all, owners_written}
 use Rattle.plank_sem.specs.Facts.{KeysStay, IsUsable, PointsTo}
 use Rattle.plank_sem.proofs.Lists.{found_after_set, set_found, set_elsewhere, found_after_push, push_found}
 use Rattle.plank_sem.proofs.NamedNodes.{LeadsAlong}
-use Rattle.plank_sem.proofs.Sharing.{Moves, Shares, moves_none, shares_none, by_all_shares, PointsApart, all_written_apart, push_moves}
+use Rattle.plank_sem.proofs.Sharing.{Moves, moves_none, by_all_shares, PointsApart, all_written_apart, push_moves}
 
 pub record HeapSound (h : Header) (owners : List (Option ℕ)) (heap : Heap) : Type 0 where
   pub owned : length owners ≡ length heap.nodes

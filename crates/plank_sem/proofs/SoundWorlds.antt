@@ -1,12 +1,12 @@
 -- Every ghost world of a run is sound, and what stays from one to a later one.
-use Rattle.std.proofs.Common.{◌≡◌, ◌≢◌, ℕ, zero, suc, ◌+◌, ◌<◌, ◌≤◌, ◌⊎◌, ℤ, Bool, true, false, eqb, List, [], ◌∷◌, ◌++◌, length, map, Option, Some, None, refl, sym, ap, ◌∙◌, subst, inl, inr, arith, length-append}
+use Rattle.std.proofs.Common.{◌≡◌, ◌≢◌, ℕ, zero, suc, ◌<◌, ◌≤◌, ℤ, Bool, true, false, List, [], ◌∷◌, ◌++◌, length, map, Option, Some, None, refl, sym, ap, ◌∙◌, subst, inl, inr, arith}
 use Rattle.std.proofs.lemmas.List.{length-map}
-use Rattle.std.specs.Prelude.{slice_get, slice_set, option_and_then, option_map, if◌then◌else◌}
+use Rattle.std.specs.Prelude.{slice_get, option_map, if◌then◌else◌}
 use Rattle.std.specs.Option.{option_map_or, option_flatten}
-use Rattle.std.specs.FinMap.{get, insert, remove, get-empty}
+use Rattle.std.specs.FinMap.{get, insert, get-empty}
 use Rattle.std.specs.Ordering.{nat_cmp}
-use Rattle.std.proofs.lemmas.Bool.{and_parts, cases_eq, eq-eqb, ne_eqb, ltb-true}
-use Rattle.std.proofs.lemmas.Option.{none-some, same_Some, slice_get_within, slice_get-map, option_and_then_some}
+use Rattle.std.proofs.lemmas.Bool.{and_parts, eq-eqb, ne_eqb, ltb-true}
+use Rattle.std.proofs.lemmas.Option.{none-some, same_Some, slice_get-map, option_and_then_some}
 use Rattle.plank_base.specs.declared.keys.NodeId.{NodeId}
 use Rattle.plank_base.specs.declared.keys.ThreadId.{ThreadId}
 use Rattle.plank_prog.specs.declared.headers.Header.{Header}
@@ -25,18 +25,18 @@ use Rattle.plank_sem.specs.declared.calls.Call.{Call}
 use Rattle.plank_sem.specs.declared.steps.Act.{Act}
 use Rattle.plank_sem.specs.declared.steps.Act.TheVariants.{Invoke, Go}
 use Rattle.plank_sem.specs.declared.steps.Choice.{Choice}
-use Rattle.plank_sem.specs.Worlds.{WorldState, Calls, start_world, fresh_call}
+use Rattle.plank_sem.specs.Worlds.{WorldState, fresh_call}
 use Rattle.plank_sem.specs.Reads.{value_of, tests_value}
 use Rattle.plank_sem.specs.Actions.{After, gone_to, bound, written, taken_yes, taken_no, block_run, copied, allocated}
-use Rattle.plank_sem.specs.Steps.{Next, stepped, refused, null_read, begun, went_on, ended, performed, action_of, gone_on, acted, next}
-use Rattle.plank_sem.specs.Fits.{AllNamed, CallFits, Fits}
-use Rattle.plank_sem.specs.Kept.{Kept, IsShared, IsOwn, updated, owners_written, owners_after, allocated_after, kept_invoked, kept_performed, kept_gone_on, kept_acted, GhostWorld, ghost_start, ghost_after, GhostRun, ghost_begins, ghost_goes_on}
-use Rattle.plank_sem.specs.Facts.{KeysStay, IsUsable, PointsTo, IsSound, Stays}
-use Rattle.plank_sem.proofs.Lists.{passes_at, push_found, push_last, flattened, mapped}
+use Rattle.plank_sem.specs.Steps.{stepped, refused, begun, went_on, performed, action_of, gone_on, acted, next}
+use Rattle.plank_sem.specs.Fits.{AllNamed, Fits}
+use Rattle.plank_sem.specs.Kept.{IsOwn, updated, owners_written, owners_after, kept_invoked, kept_performed, kept_gone_on, kept_acted, GhostWorld, ghost_start, ghost_after, GhostRun, ghost_begins, ghost_goes_on}
+use Rattle.plank_sem.specs.Facts.{IsUsable, IsSound, Stays}
+use Rattle.plank_sem.proofs.Lists.{passes_at, push_last, flattened, mapped}
 use Rattle.plank_sem.proofs.CallMaps.{found_after_insert, found_after_remove}
 use Rattle.plank_sem.proofs.NamedNodes.{all_named_set, value_in, bound_in}
 use Rattle.plank_sem.proofs.FitsKept.{fits_kept, none_named, world_of}
-use Rattle.plank_sem.proofs.Sharing.{Moves, moves_none}
+use Rattle.plank_sem.proofs.Sharing.{Moves}
 use Rattle.plank_sem.proofs.SoundHeaps.{HeapSound, HeapMoves, heap_stays, writes_move, fresh_moves, root_shared, usable_leads, shared_leads, path_shared, keys_same, keys_then}
 
 -- ---- calls
