@@ -1,10 +1,11 @@
 -- A step of a lawful program leads from a world that fits to one that fits.
-use Rattle.std.proofs.Common.{◌≡◌, ℕ, ◌+◌, ◌<◌, ◌≤◌, Bool, true, false, List, [], ◌∷◌, ◌++◌, length, set, replicate, ℤ, zero, suc, Option, Some, None, refl, sym, ap, ◌∙◌, subst, inl, inr, arith, length-append, length-set}
-use Rattle.std.specs.Prelude.{slice_get, slice_set, ◌&&◌, option_and_then, option_map, if◌then◌else◌, Result, Ok, Err, IfOk, OnErr}
+use Rattle.std.proofs.Common.{◌≡◌, ℕ, ◌<◌, ◌≤◌, Bool, true, false, List, [], ◌∷◌, length, replicate, ℤ, zero, suc, Option, Some, None, refl, sym, ap, ◌∙◌, subst, inl, inr, arith, length-append, length-set}
+use Rattle.std.specs.Prelude.{slice_get, slice_set, option_map, if◌then◌else◌, Result, Ok, Err, IfOk, OnErr}
 use Rattle.std.specs.Option.{option_map_or}
-use Rattle.std.specs.FinMap.{get, insert, remove}
+use Rattle.std.specs.FinMap.{get, insert, empty, get-empty}
+use Rattle.std.specs.Ordering.{nat_cmp}
 use Rattle.std.proofs.lemmas.Bool.{and_parts, ltb-true}
-use Rattle.std.proofs.lemmas.Option.{none-some, same_Some, slice_get_within, option_and_then_some}
+use Rattle.std.proofs.lemmas.Option.{none-some, same_Some, option_and_then_some}
 use Rattle.plank_base.specs.declared.keys.NodeId.{NodeId}
 use Rattle.plank_base.specs.declared.keys.ThreadId.{ThreadId}
 use Rattle.plank_prog.specs.declared.headers.Header.{Header}
@@ -13,12 +14,11 @@ use Rattle.plank_prog.specs.declared.blocks.Write.{Write}
 use Rattle.plank_prog.specs.declared.blocks.Block.{Block}
 use Rattle.plank_prog.specs.declared.methods.Action.{Action}
 use Rattle.plank_prog.specs.declared.methods.Method.{Method}
-use Rattle.plank_prog.specs.Headers.{is_lawful_header}
 use Rattle.plank_prog.specs.Methods.{are_lawful_methods, is_lawful_method}
 use Rattle.plank_heap.specs.declared.nodes.Node.{Node}
 use Rattle.plank_heap.specs.declared.heaps.Heap.{Heap}
 use Rattle.plank_heap.specs.Heaps.{IsClosed, LeadsWithin}
-use Rattle.plank_heap.specs.Changes.{with_node, with_fresh_node, fresh_node, with_pointer}
+use Rattle.plank_heap.specs.Changes.{with_node, with_fresh_node, fresh_node}
 use Rattle.plank_hist.specs.declared.events.Event.{Event}
 use Rattle.plank_sem.specs.declared.calls.Call.{Call}
 use Rattle.plank_sem.specs.declared.steps.Act.{Act}
@@ -27,13 +27,13 @@ use Rattle.plank_sem.specs.declared.steps.Choice.{Choice}
 use Rattle.plank_sem.specs.declared.steps.Stepped.{Stepped}
 use Rattle.plank_sem.specs.declared.steps.StepFault.{StepFault}
 use Rattle.plank_sem.specs.Worlds.{WorldState, Calls, fresh_call}
-use Rattle.plank_sem.specs.Reads.{named, value_of, tests_value}
+use Rattle.plank_sem.specs.Reads.{value_of, tests_value}
 use Rattle.plank_sem.specs.Actions.{After, gone_to, bound, changed, changed_by, written, written_in, taken_yes, taken_no, block_run, copied, allocated}
-use Rattle.plank_sem.specs.Steps.{Next, stepped, refused, null_read, begun, went_on, ended, performed, action_of, gone_on, acted, next}
+use Rattle.plank_sem.specs.Steps.{stepped, refused, begun, went_on, ended, performed, action_of, gone_on, acted, next}
 use Rattle.plank_sem.specs.Fits.{AllNamed, CallFits, Fits}
 use Rattle.plank_sem.proofs.Lists.{passes_at, found_after_set, found_after_push}
 use Rattle.plank_sem.proofs.CallMaps.{found_after_insert, found_after_remove}
-use Rattle.plank_sem.proofs.NamedNodes.{all_named_set, LeadsAlong, named_in, value_in, bound_in}
+use Rattle.plank_sem.proofs.NamedNodes.{all_named_set, LeadsAlong, value_in, bound_in}
 use Rattle.plank_sem.proofs.LawfulActions.{StandsAt, stands_at, block_yes, block_no}
 
 -- ---- heaps
@@ -47,8 +47,8 @@ node_leads : (heap : Heap) (call : Call) (thread : ThreadId) → heap.root.0 < l
 node_leads heap call thread root all (Write.Flag r flag to) node leads f y at = leads f y at
 node_leads heap call thread root all (Write.Pointer r pointer to) node leads f y at =
     elim (found_after_set node.pointers pointer (value_of heap call to) f (Some y) at) [
-      inl h ↦ value_in (λ x. x < length heap.nodes) heap call root all to y h.1
-    | inr h ↦ leads f y h.1
+      | inl h ↦ value_in (λ x. x < length heap.nodes) heap call root all to y h.1
+      | inr h ↦ leads f y h.1
     ]
 node_leads heap call thread root all (Write.TakeLock r) node leads f y at = leads f y at
 node_leads heap call thread root all (Write.FreeLock r) node leads f y at = leads f y at
@@ -71,12 +71,12 @@ with_node_closed heap x node closed leads =
       closed = record {
         root = let root = closed.root in omega (arith, same);
         pointers = λ y other found f z at.
-          let below : z.0 < length heap.nodes =
+            let below : z.0 < length heap.nodes =
             elim (found_after_set heap.nodes x node y other found) [
-              inl h ↦ leads f z (subst (λ (o : Node). slice_get o.pointers f ≡ Some (Some z)) (sym h.1) at)
-            | inr h ↦ closed.pointers y other h.1 f z at
+              | inl h ↦ leads f z (subst (λ (o : Node). slice_get o.pointers f ≡ Some (Some z)) (sym h.1) at)
+              | inr h ↦ closed.pointers y other h.1 f z at
             ] in
-          omega (arith, same, below);
+            omega (arith, same, below);
       };
       longer = omega (arith, same);
     }
@@ -86,10 +86,10 @@ pub written_grown : (heap : Heap) (call : Call) (thread : ThreadId) → IsClosed
 written_grown heap call thread closed all [] after e = subst (Grown heap) (same_Some heap after e) (record { closed = closed; longer = omega arith })
 written_grown heap call thread closed all (w ∷ ws) after e =
     option_and_then_some (λ (x : NodeId). option_map (λ node. with_node heap x.0 (changed_by heap thread call (w ∷ ws) node)) (slice_get heap.nodes x.0)) (written_in (w ∷ ws) heap call) after e
-      (λ x is rest. option_and_then_some (λ (node : Node). Some (with_node heap x.0 (changed_by heap thread call (w ∷ ws) node))) (slice_get heap.nodes x.0) after rest
-        (λ node found same. subst (Grown heap) (same_Some _ after same)
-          (with_node_closed heap x.0 (changed_by heap thread call (w ∷ ws) node) closed
-            (all_leads heap call thread closed.root all (w ∷ ws) node (closed.pointers x.0 node found)))))
+    (λ x is rest. option_and_then_some (λ (node : Node). Some (with_node heap x.0 (changed_by heap thread call (w ∷ ws) node))) (slice_get heap.nodes x.0) after rest
+    (λ node found same. subst (Grown heap) (same_Some _ after same)
+    (with_node_closed heap x.0 (changed_by heap thread call (w ∷ ws) node) closed
+    (all_leads heap call thread closed.root all (w ∷ ws) node (closed.pointers x.0 node found)))))
 
 fresh_leads : (key : ℤ) (n : ℕ) → LeadsWithin n (fresh_node key)
 fresh_leads key n zero y at = absurd (none-some y (same_Some None (Some y) at))
@@ -103,12 +103,12 @@ fresh_grown heap key closed =
       closed = record {
         root = let root = closed.root in omega (arith, longer);
         pointers = λ y other found f z at.
-          let below : z.0 < length heap.nodes =
+            let below : z.0 < length heap.nodes =
             elim (found_after_push heap.nodes (fresh_node key) y other found) [
-              inl h ↦ closed.pointers y other h f z at
-            | inr h ↦ fresh_leads key (length heap.nodes) f z (subst (λ (o : Node). slice_get o.pointers f ≡ Some (Some z)) (sym h.1) at)
+              | inl h ↦ closed.pointers y other h f z at
+              | inr h ↦ fresh_leads key (length heap.nodes) f z (subst (λ (o : Node). slice_get o.pointers f ≡ Some (Some z)) (sym h.1) at)
             ] in
-          omega (arith, longer, below);
+            omega (arith, longer, below);
       };
       longer = omega (arith, longer);
     }
@@ -139,16 +139,16 @@ module _ (h : Header) (methods : List Method) (heap : Heap) (thread : ThreadId) 
 
   yes_goes_on : (b : Block) (after : After) → StandsAt h methods call (Action.Block b) → taken_yes heap thread call b ≡ Some after → GoesOn methods heap after
   yes_goes_on b after here e =
-    option_and_then_some (λ (variables : List (Option NodeId)). option_map (λ next. record { heap = next; call = gone_to call b.yes variables }) (written heap thread call b.writes)) (bound heap call b.binds call.variables) after e
+      option_and_then_some (λ (variables : List (Option NodeId)). option_map (λ next. record { heap = next; call = gone_to call b.yes variables }) (written heap thread call b.writes)) (bound heap call b.binds call.variables) after e
       (λ variables is rest. option_and_then_some (λ (next : Heap). Some (record { heap = next; call = gone_to call b.yes variables })) (written heap thread call b.writes) after rest
-        (λ next is_written same. subst (GoesOn methods heap) (same_Some _ after same)
-          (let grown = written_grown heap call thread closed fits.variables b.writes next is_written in
-          record {
-            grown = grown;
-            call = call_goes_on here.method here.called b.yes (block_yes h (length here.method.variables) (length here.method.locations) b here.lawful) (length next.nodes) variables
-              (all_named_below (length heap.nodes) (length next.nodes) variables grown.longer
-                (bound_in (λ x. x < length heap.nodes) heap call closed.root fits.variables (closed_leads heap closed) b.binds call.variables variables fits.variables is));
-          })))
+      (λ next is_written same. subst (GoesOn methods heap) (same_Some _ after same)
+      (let grown = written_grown heap call thread closed fits.variables b.writes next is_written in
+      record {
+        grown = grown;
+        call = call_goes_on here.method here.called b.yes (block_yes h (length here.method.variables) (length here.method.locations) b here.lawful) (length next.nodes) variables
+            (all_named_below (length heap.nodes) (length next.nodes) variables grown.longer
+            (bound_in (λ x. x < length heap.nodes) heap call closed.root fits.variables (closed_leads heap closed) b.binds call.variables variables fits.variables is));
+      })))
 
   exit_goes_on : (b : Block) (passed : Bool) (after : After) → StandsAt h methods call (Action.Block b)
       → (if passed then taken_yes heap thread call b else Some (taken_no heap call b)) ≡ Some after → GoesOn methods heap after
@@ -160,29 +160,29 @@ module _ (h : Header) (methods : List Method) (heap : Heap) (thread : ThreadId) 
 
   pub block_goes_on : (b : Block) (after : After) → StandsAt h methods call (Action.Block b) → block_run heap thread call b ≡ Some after → GoesOn methods heap after
   block_goes_on b after here e =
-    option_and_then_some (λ (passed : Bool). if passed then taken_yes heap thread call b else Some (taken_no heap call b)) (tests_value heap thread call b.tests) after e
+      option_and_then_some (λ (passed : Bool). if passed then taken_yes heap thread call b else Some (taken_no heap call b)) (tests_value heap thread call b.tests) after e
       (λ passed is rest. exit_goes_on b passed after here rest)
 
   pub copied_goes_on : (to : ℕ) (from : Value) (next : ℕ) → StandsAt h methods call (Action.Copy to from next) → GoesOn methods heap (copied heap call to from next)
   copied_goes_on to from next here = record {
     grown = record { closed = closed; longer = omega arith };
     call = call_goes_on here.method here.called next (ltb-true next (length here.method.locations) (and_parts _ _ here.lawful).1) (length heap.nodes) (slice_set call.variables to (value_of heap call from))
-      (all_named_set (λ x. x < length heap.nodes) call.variables to (value_of heap call from) fits.variables
+        (all_named_set (λ x. x < length heap.nodes) call.variables to (value_of heap call from) fits.variables
         (λ x is. value_in (λ y. y < length heap.nodes) heap call closed.root fits.variables from x is));
   }
 
   pub allocated_goes_on : (to next : ℕ) → StandsAt h methods call (Action.New to next) → GoesOn methods heap (allocated heap call to next)
   allocated_goes_on to next here =
-    let fresh : NodeId = record { 0 = length heap.nodes } in
-    let longer = length-append heap.nodes (fresh_node call.key ∷ []) in
-    let grown = fresh_grown heap call.key closed in
-    record {
-      grown = grown;
-      call = call_goes_on here.method here.called next (ltb-true next (length here.method.locations) (and_parts _ _ here.lawful).1) (length (with_fresh_node heap call.key).nodes) (slice_set call.variables to (Some fresh))
-        (all_named_set (λ x. x < length (with_fresh_node heap call.key).nodes) call.variables to (Some fresh)
-          (all_named_below (length heap.nodes) (length (with_fresh_node heap call.key).nodes) call.variables grown.longer fits.variables)
-          (λ x is. let same : length heap.nodes ≡ x.0 = ap (λ (y : NodeId). y.0) (same_Some fresh x is) in omega (arith, longer, same)));
-    }
+      let fresh : NodeId = record { 0 = length heap.nodes } in
+      let longer = length-append heap.nodes (fresh_node call.key ∷ []) in
+      let grown = fresh_grown heap call.key closed in
+      record {
+        grown = grown;
+        call = call_goes_on here.method here.called next (ltb-true next (length here.method.locations) (and_parts _ _ here.lawful).1) (length (with_fresh_node heap call.key).nodes) (slice_set call.variables to (Some fresh))
+            (all_named_set (λ x. x < length (with_fresh_node heap call.key).nodes) call.variables to (Some fresh)
+            (all_named_below (length heap.nodes) (length (with_fresh_node heap call.key).nodes) call.variables grown.longer fits.variables)
+            (λ x is. let same : length heap.nodes ≡ x.0 = ap (λ (y : NodeId). y.0) (same_Some fresh x is) in omega (arith, longer, same)));
+      }
 
 -- ---- worlds
 
@@ -195,10 +195,10 @@ pub went_on_fits : (methods : List Method) (w : WorldState) (thread : ThreadId) 
 went_on_fits methods w thread after fits goes = record {
   heap = goes.grown.closed;
   calls = λ t call at.
-    elim (found_after_insert w.calls thread.0 after.call t call at) [
-      inl h ↦ subst (CallFits methods (length after.heap.nodes)) h.1 goes.call
-    | inr h ↦ call_fits_more methods (length w.heap.nodes) (length after.heap.nodes) call goes.grown.longer (fits.calls t call h.1)
-    ];
+      elim (found_after_insert w.calls thread.0 after.call t call at) [
+        | inl h ↦ subst (CallFits methods (length after.heap.nodes)) h.1 goes.call
+        | inr h ↦ call_fits_more methods (length w.heap.nodes) (length after.heap.nodes) call goes.grown.longer (fits.calls t call h.1)
+      ];
 }
 
 ended_fits : (methods : List Method) (w : WorldState) (thread : ThreadId) → Fits methods w → Fits methods (ended w thread)
@@ -218,11 +218,18 @@ begun_fits : (methods : List Method) (w : WorldState) (thread : ThreadId) (m : �
 begun_fits methods w thread m key method fits called some = record {
   heap = fits.heap;
   calls = λ t call at.
-    elim (found_after_insert w.calls thread.0 (fresh_call m key) t call at) [
-      inl h ↦ subst (CallFits methods (length w.heap.nodes)) h.1
-        (record { method = method; called = called; location = some; variables = none_named (λ x. x < length w.heap.nodes) 6 })
-    | inr h ↦ fits.calls t call h.1
-    ];
+      elim (found_after_insert w.calls thread.0 (fresh_call m key) t call at) [
+        | inl h ↦ subst (CallFits methods (length w.heap.nodes)) h.1
+            (record { method = method; called = called; location = some; variables = none_named (λ x. x < length w.heap.nodes) 6 })
+        | inr h ↦ fits.calls t call h.1
+      ];
+}
+
+-- a closed heap without calls
+pub start_fits : (methods : List Method) (heap : Heap) (calls : Calls) → IsClosed heap → calls ≡ empty → Fits methods (record { heap = heap; calls = calls })
+start_fits methods heap calls closed none = record {
+  heap = closed;
+  calls = λ thread call at. absurd (none-some call (sym (ap (λ (m : Calls). get m thread) none ∙ get-empty nat_cmp thread) ∙ at));
 }
 
 -- ---- steps
@@ -237,7 +244,7 @@ module _ (h : Header) (methods : List Method) (lawful : are_lawful_methods h met
   begun_kept : (m : ℕ) (key : ℤ) (pending : Option Call) (method : Option Method) (event : Option Event) (after : WorldState) → slice_get methods m ≡ method
       → begun w thread m key pending method ≡ stepped event after → Fits methods after
   begun_kept m key None (Some method) event after called e =
-    subst (Fits methods) (world_of _ event _ after e) (begun_fits methods w thread m key method fits called (has_location h methods m method lawful called))
+      subst (Fits methods) (world_of _ event _ after e) (begun_fits methods w thread m key method fits called (has_location h methods m method lawful called))
   begun_kept m key None None event after called e = absurd (cc)
   begun_kept m key (Some call) method event after called e = absurd (cc)
 
@@ -245,20 +252,20 @@ module _ (h : Header) (methods : List Method) (lawful : are_lawful_methods h met
       → went_on w thread made ≡ stepped event after → Fits methods after
   went_on_kept None event after goes e = absurd (cc)
   went_on_kept (Some a) event after goes e =
-    subst (Fits methods) (world_of _ event _ after e) (went_on_fits methods w thread a fits (goes a refl))
+      subst (Fits methods) (world_of _ event _ after e) (went_on_fits methods w thread a fits (goes a refl))
 
   performed_kept : (call : Call) (action : Action) (event : Option Event) (after : WorldState) → CallFits methods (length w.heap.nodes) call
       → StandsAt h methods call action → performed w thread call action ≡ stepped event after → Fits methods after
   performed_kept call (Action.Block b) event after one here e =
-    went_on_kept (block_run w.heap thread call b) event after (λ a is. block_goes_on h methods w.heap thread call fits.heap one b a here is) e
+      went_on_kept (block_run w.heap thread call b) event after (λ a is. block_goes_on h methods w.heap thread call fits.heap one b a here is) e
   performed_kept call (Action.Copy to from next) event after one here e =
-    went_on_kept (Some (copied w.heap call to from next)) event after
+      went_on_kept (Some (copied w.heap call to from next)) event after
       (λ a is. subst (GoesOn methods w.heap) (same_Some _ a is) (copied_goes_on h methods w.heap thread call fits.heap one to from next here)) e
   performed_kept call (Action.New to next) event after one here e =
-    went_on_kept (Some (allocated w.heap call to next)) event after
+      went_on_kept (Some (allocated w.heap call to next)) event after
       (λ a is. subst (GoesOn methods w.heap) (same_Some _ a is) (allocated_goes_on h methods w.heap thread call fits.heap one to next here)) e
   performed_kept call (Action.Return answer) event after one here e =
-    subst (Fits methods) (world_of _ event _ after e) (ended_fits methods w thread fits)
+      subst (Fits methods) (world_of _ event _ after e) (ended_fits methods w thread fits)
 
   at_kept : (call : Call) (action : Option Action) (event : Option Event) (after : WorldState) → CallFits methods (length w.heap.nodes) call
       → action_of methods call ≡ action → option_map_or (performed w thread call) action refused ≡ stepped event after → Fits methods after

@@ -1,5 +1,5 @@
 -- Runs with what is kept beside them are the same runs.
-use Rattle.std.proofs.Common.{◌≡◌, List, [], ◌∷◌, map, Option, refl, sym, ap, ◌∙◌, subst}
+use Rattle.std.proofs.Common.{◌≡◌, List, [], ◌∷◌, map, Option, refl, sym, ap, subst}
 use Rattle.plank_prog.specs.declared.headers.Header.{Header}
 use Rattle.plank_prog.specs.declared.methods.Method.{Method}
 use Rattle.plank_hist.specs.declared.events.Event.{Event}

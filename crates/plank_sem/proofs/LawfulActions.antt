@@ -1,8 +1,8 @@
 -- What a lawful program says of the action at the location of a call: the numbers in it are in range.
-use Rattle.std.proofs.Common.{◌≡◌, ℕ, ◌<◌, ◌≤◌, Bool, true, List, length, Option, Some, None, refl, sym, ap, ◌∙◌, subst, ltb, leb, arith}
-use Rattle.std.specs.Prelude.{All, slice_get, ◌&&◌, nat_lt, nat_le, option_map, option_and_then}
+use Rattle.std.proofs.Common.{◌≡◌, ℕ, ◌<◌, ◌≤◌, true, List, length, Some, subst, arith}
+use Rattle.std.specs.Prelude.{All, slice_get, option_and_then}
 use Rattle.std.proofs.lemmas.Bool.{and_parts, ltb-true, leb-true}
-use Rattle.std.proofs.lemmas.Option.{none-some, option_and_then_some}
+use Rattle.std.proofs.lemmas.Option.{option_and_then_some}
 use Rattle.plank_prog.specs.declared.headers.Header.{Header}
 use Rattle.plank_prog.specs.declared.blocks.Value.{Value}
 use Rattle.plank_prog.specs.declared.blocks.Bind.{Bind}
@@ -33,7 +33,7 @@ location_stands h methods call method l lawful called at =
     let parts = and_parts _ _ one in
     let room = and_parts _ _ (and_parts _ _ (and_parts _ _ parts.0).0).0 in
     let here : is_lawful_location h (length method.variables) (length method.locations) l ≡ true =
-      passes_at (is_lawful_location h (length method.variables) (length method.locations)) method.locations call.location l parts.1 at in
+    passes_at (is_lawful_location h (length method.variables) (length method.locations)) method.locations call.location l parts.1 at in
     record { method = method; called = called; variables = leb-true (length method.variables) 6 room.0; lawful = (and_parts _ _ here).0 }
 
 pub stands_at : (h : Header) (methods : List Method) (call : Call) (action : Action) → are_lawful_methods h methods ≡ true
@@ -41,8 +41,8 @@ pub stands_at : (h : Header) (methods : List Method) (call : Call) (action : Act
 stands_at h methods call action lawful at =
     let found = mapped (λ (l : Location). l.action) (option_and_then (λ (m : Method). slice_get m.locations call.location) (slice_get methods call.method)) action at in
     subst (λ a. StandsAt h methods call a) found.2
-      (option_and_then_some (λ (m : Method). slice_get m.locations call.location) (slice_get methods call.method) found.0 found.1
-        (λ method called l. location_stands h methods call method found.0 lawful called l))
+    (option_and_then_some (λ (m : Method). slice_get m.locations call.location) (slice_get methods call.method) found.0 found.1
+    (λ method called l. location_stands h methods call method found.0 lawful called l))
 
 -- ---- blocks
 
@@ -50,11 +50,11 @@ module _ (h : Header) (variables locations : ℕ) (b : Block) (lawful : is_lawfu
   -- the tests of a lawful block, in their order: parts, exits, names, binds, writes, locks
   pub block_parts : block_parts_fit h variables b ≡ true
   block_parts =
-    (and_parts _ _ (and_parts _ _ (and_parts _ _ (and_parts _ _ (and_parts _ _ (and_parts _ _ lawful).0).0).0).0).0).0
+      (and_parts _ _ (and_parts _ _ (and_parts _ _ (and_parts _ _ (and_parts _ _ (and_parts _ _ lawful).0).0).0).0).0).0
 
   pub block_yes : b.yes < locations
   block_yes =
-    ltb-true b.yes locations (and_parts _ _ (and_parts _ _ (and_parts _ _ (and_parts _ _ (and_parts _ _ (and_parts _ _ lawful).0).0).0).0).0).1
+      ltb-true b.yes locations (and_parts _ _ (and_parts _ _ (and_parts _ _ (and_parts _ _ (and_parts _ _ (and_parts _ _ lawful).0).0).0).0).0).1
 
   pub block_no : b.no < locations
   block_no = ltb-true b.no locations (and_parts _ _ (and_parts _ _ (and_parts _ _ (and_parts _ _ (and_parts _ _ lawful).0).0).0).0).1
@@ -64,17 +64,21 @@ module _ (h : Header) (variables locations : ℕ) (b : Block) (lawful : is_lawfu
 
   pub binds_in_range : variables ≤ 6 → All (λ d. d.to < 6) b.binds
   binds_in_range few =
-    All-from_list_all (bind_fits h variables) (λ d. d.to < 6) (bind_in_range few) b.binds (and_parts _ _ (and_parts _ _ block_parts).0).1
+      All-from_list_all (bind_fits h variables) (λ d. d.to < 6) (bind_in_range few) b.binds (and_parts _ _ (and_parts _ _ block_parts).0).1
+
+below_eight : (n m : ℕ) → n < m → m ≤ 3 → n < 8
+below_eight n m below few = omega arith
+
+below_two : (n m : ℕ) → n < m → m ≤ 2 → n < 2
+below_two n m below few = omega arith
 
 has_room : (h : Header) (variables : ℕ) (w : Write) → is_header_within_limits h ≡ true → write_fits h variables w ≡ true → HasRoom w
 has_room h variables (Write.Flag r flag to) limits fits =
-    let few : length h.flags ≤ 3 = leb-true (length h.flags) 3 (and_parts _ _ (and_parts _ _ limits).0).0 in
-    let below : flag < length h.flags = ltb-true flag (length h.flags) (and_parts _ _ fits).1 in
-    omega arith
+    below_eight flag (length h.flags) (ltb-true flag (length h.flags) (and_parts _ _ fits).1)
+    (leb-true (length h.flags) 3 (and_parts _ _ (and_parts _ _ limits).0).0)
 has_room h variables (Write.Pointer r pointer to) limits fits =
-    let few : length h.pointers ≤ 2 = leb-true (length h.pointers) 2 (and_parts _ _ (and_parts _ _ limits).0).1 in
-    let below : pointer < length h.pointers = ltb-true pointer (length h.pointers) (and_parts _ _ (and_parts _ _ fits).0).1 in
-    omega arith
+    below_two pointer (length h.pointers) (ltb-true pointer (length h.pointers) (and_parts _ _ (and_parts _ _ fits).0).1)
+    (leb-true (length h.pointers) 2 (and_parts _ _ (and_parts _ _ limits).0).1)
 has_room h variables (Write.TakeLock r) limits fits = tt
 has_room h variables (Write.FreeLock r) limits fits = tt
 
@@ -83,29 +87,29 @@ pub writes_have_room : (h : Header) (variables locations : ℕ) (b : Block) → 
 writes_have_room h variables locations b header lawful =
     let limits : is_header_within_limits h ≡ true = (and_parts _ _ (and_parts _ _ (and_parts _ _ header).0).0).0 in
     All-from_list_all (write_fits h variables) HasRoom (λ w fits. has_room h variables w limits fits) b.writes
-      (and_parts _ _ (block_parts h variables locations b lawful)).1
+    (and_parts _ _ (block_parts h variables locations b lawful)).1
 
 -- ---- what the code needs of the action that it comes to
 
 module _ (h : Header) (methods : List Method) (call : Call) (header : is_lawful_header h ≡ true) (lawful : are_lawful_methods h methods ≡ true) where
   pub binds_at : (b : Block) → action_of methods call ≡ Some (Action.Block b) → All (λ d. d.to < 6) b.binds
   binds_at b at =
-    let here = stands_at h methods call (Action.Block b) lawful at in
-    binds_in_range h (length here.method.variables) (length here.method.locations) b here.lawful here.variables
+      let here = stands_at h methods call (Action.Block b) lawful at in
+      binds_in_range h (length here.method.variables) (length here.method.locations) b here.lawful here.variables
 
   pub writes_at : (b : Block) → action_of methods call ≡ Some (Action.Block b) → All HasRoom b.writes
   writes_at b at =
-    let here = stands_at h methods call (Action.Block b) lawful at in
-    writes_have_room h (length here.method.variables) (length here.method.locations) b header here.lawful
+      let here = stands_at h methods call (Action.Block b) lawful at in
+      writes_have_room h (length here.method.variables) (length here.method.locations) b header here.lawful
 
   pub copy_at : (to : ℕ) (from : Value) (next : ℕ) → action_of methods call ≡ Some (Action.Copy to from next) → to < 6
   copy_at to from next at =
-    let here = stands_at h methods call (Action.Copy to from next) lawful at in
-    let below = ltb-true to (length here.method.variables) (and_parts _ _ (and_parts _ _ here.lawful).0).0 in
-    omega (arith, below, here.variables)
+      let here = stands_at h methods call (Action.Copy to from next) lawful at in
+      let below = ltb-true to (length here.method.variables) (and_parts _ _ (and_parts _ _ here.lawful).0).0 in
+      omega (arith, below, here.variables)
 
   pub new_at : (to next : ℕ) → action_of methods call ≡ Some (Action.New to next) → to < 6
   new_at to next at =
-    let here = stands_at h methods call (Action.New to next) lawful at in
-    let below = ltb-true to (length here.method.variables) (and_parts _ _ here.lawful).0 in
-    omega (arith, below, here.variables)
+      let here = stands_at h methods call (Action.New to next) lawful at in
+      let below = ltb-true to (length here.method.variables) (and_parts _ _ here.lawful).0 in
+      omega (arith, below, here.variables)

@@ -1,6 +1,6 @@
 -- Elements of lists that are written, that grow, and that pass a test.
-use Rattle.std.proofs.Common.{◌≡◌, ◌≢◌, ℕ, zero, suc, ◌+◌, ◌<◌, ◌≤◌, ◌⊎◌, Bool, true, cond, eqb, List, [], ◌∷◌, ◌++◌, length, set, Option, Some, None, refl, sym, ap, ◌∙◌, subst, inl, inr, arith}
-use Rattle.std.specs.Prelude.{All, slice_get, ◌&&◌, option_map}
+use Rattle.std.proofs.Common.{◌≡◌, ◌≢◌, ℕ, zero, suc, ◌⊎◌, Bool, true, List, [], ◌∷◌, ◌++◌, length, set, Option, Some, None, refl, ap, subst, inl, inr, arith}
+use Rattle.std.specs.Prelude.{All, slice_get, option_map}
 use Rattle.std.specs.List.{list_all}
 use Rattle.std.specs.Option.{option_flatten}
 use Rattle.std.proofs.lemmas.Bool.{and_parts}
@@ -30,8 +30,8 @@ found_after_set (z ∷ zs) zero y (suc k) x at = inr ((λ same. absurd (cc)), at
 found_after_set (z ∷ zs) (suc i) y zero x at = inr ((λ same. absurd (cc)), at)
 found_after_set (z ∷ zs) (suc i) y (suc k) x at =
     elim (found_after_set zs i y k x at) [
-      inl h ↦ inl (ap suc h.0, h.1)
-    | inr h ↦ inr ((λ same. h.0 (omega arith)), h.1)
+      | inl h ↦ inl (ap suc h.0, h.1)
+      | inr h ↦ inr ((λ same. h.0 (omega arith)), h.1)
     ]
 
 pub set_found : {X : Type 0} (xs : List X) (i : ℕ) (y x : X) → slice_get xs i ≡ Some x → slice_get (set xs i y) i ≡ Some y

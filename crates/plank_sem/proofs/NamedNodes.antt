@@ -1,7 +1,7 @@
 -- Names stay within any set of nodes that has the root and is closed along pointers: binds, copies and writes bring in no
 -- other. Used with the nodes of a heap, and with the nodes that a call may name.
-use Rattle.std.proofs.Common.{◌≡◌, ℕ, List, [], ◌∷◌, set, Option, Some, None, refl, sym, ap, ◌∙◌, subst, inl, inr}
-use Rattle.std.specs.Prelude.{slice_get, slice_set, option_and_then}
+use Rattle.std.proofs.Common.{◌≡◌, ℕ, List, [], ◌∷◌, Option, Some, ap, ◌∙◌, subst, inl, inr}
+use Rattle.std.specs.Prelude.{slice_get, slice_set}
 use Rattle.std.proofs.lemmas.Option.{none-some, same_Some, option_and_then_some}
 use Rattle.plank_base.specs.declared.keys.NodeId.{NodeId}
 use Rattle.plank_prog.specs.declared.blocks.Reference.{Reference}
@@ -33,8 +33,8 @@ pub pointer_read : (heap : Heap) (call : Call) (r : Reference) (pointer : ℕ) (
     → PointerRead heap call r pointer to
 pointer_read heap call r pointer to e =
     option_and_then_some (λ (x : Node). slice_get x.pointers pointer) (node_of heap call r) to e (λ node found leads.
-      option_and_then_some (λ (x : NodeId). slice_get heap.nodes x.0) (named heap call r) node found (λ from is at.
-        record { from = from; is = is; node = node; found = at; leads = leads }))
+    option_and_then_some (λ (x : NodeId). slice_get heap.nodes x.0) (named heap call r) node found (λ from is at.
+    record { from = from; is = is; node = node; found = at; leads = leads }))
 
 -- pointers of these nodes lead to these nodes
 abbrev pub LeadsAlong : (ℕ → Type 0) → Heap → Type 0
@@ -51,13 +51,13 @@ module _ (These : ℕ → Type 0) (heap : Heap) (call : Call) (root : These heap
 
   pub pointer_in : LeadsAlong These heap → (r : Reference) (pointer : ℕ) (y : NodeId) → pointer_of heap call r pointer ≡ Some (Some y) → These y.0
   pointer_in along r pointer y e =
-    let p = pointer_read heap call r pointer (Some y) e in
-    along p.from.0 p.node pointer y (named_in r p.from p.is) p.found p.leads
+      let p = pointer_read heap call r pointer (Some y) e in
+      along p.from.0 p.node pointer y (named_in r p.from p.is) p.found p.leads
 
   pub bound_in : LeadsAlong These heap → (binds : List Bind) (before after : List (Option NodeId)) → AllNamed These before
       → bound heap call binds before ≡ Some after → AllNamed These after
   bound_in along [] before after all e = subst (AllNamed These) (same_Some before after e) all
   bound_in along (d ∷ ds) before after all e =
-    option_and_then_some (λ (to : Option NodeId). bound heap call ds (slice_set before d.to to)) (pointer_of heap call d.from d.pointer) after e
+      option_and_then_some (λ (to : Option NodeId). bound heap call ds (slice_set before d.to to)) (pointer_of heap call d.from d.pointer) after e
       (λ to is rest. bound_in along ds (slice_set before d.to to) after
-        (all_named_set These before d.to to all (λ x same. pointer_in along d.from d.pointer x (is ∙ ap (λ o. Some o) same))) rest)
+      (all_named_set These before d.to to all (λ x same. pointer_in along d.from d.pointer x (is ∙ ap (λ o. Some o) same))) rest)

@@ -1,5 +1,5 @@
 -- The histories of runs whose methods are no insert and return false: what the law of the empty set asks of them.
-use Rattle.std.proofs.Common.{◌≡◌, ◌≢◌, ℕ, ◌<◌, Bool, false, ℤ, List, [], ◌∷◌, ◌++◌, Option, Some, None, map, refl, sym, ap, ◌∙◌, subst}
+use Rattle.std.proofs.Common.{◌≡◌, ◌≢◌, ℕ, false, ℤ, List, Option, Some, None, refl, sym, ap, ◌∙◌, subst}
 use Rattle.std.specs.Prelude.{All, slice_get, option_and_then}
 use Rattle.std.specs.Option.{option_map, option_map_or}
 use Rattle.std.specs.FinMap as fin
@@ -14,15 +14,14 @@ use Rattle.plank_prog.specs.declared.methods.Location.{Location}
 use Rattle.plank_prog.specs.declared.methods.Method.{Method}
 use Rattle.plank_hist.specs.declared.events.Event.{Event}
 use Rattle.plank_hist.specs.declared.events.Event.TheVariants.{Invoke as invocation, Respond as response}
-use Rattle.plank_hist.specs.Histories.{Happening, invoked, responded, IsInvoked, happening_of, history_of}
+use Rattle.plank_hist.specs.Histories.{invoked, happening_of}
 use Rattle.plank_hist.specs.EmptySet.{AnswersFalse, AnswersNoInsert}
 use Rattle.plank_sem.specs.declared.calls.Call.{Call}
 use Rattle.plank_sem.specs.declared.steps.Act.{Act}
 use Rattle.plank_sem.specs.declared.steps.Act.TheVariants.{Invoke, Go}
 use Rattle.plank_sem.specs.declared.steps.Choice.{Choice}
 use Rattle.plank_sem.specs.Worlds.{WorldState}
-use Rattle.plank_sem.specs.Actions.{After}
-use Rattle.plank_sem.specs.Steps.{Next, stepped, refused, null_read, begun, went_on, performed, action_of, gone_on, acted, next}
+use Rattle.plank_sem.specs.Steps.{stepped, refused, begun, performed, action_of, gone_on, acted}
 use Rattle.plank_sem.specs.Runs.{Run, begins, goes_on, with_event, history, AnswersFalseWithoutInsert}
 use Rattle.plank_sem.proofs.Lists.{found_of_all, mapped}
 
@@ -52,7 +51,7 @@ action_quiet : (methods : List Method) (call : Call) (action : Action) → Answe
 action_quiet methods call action all at =
     let found = mapped (λ (l : Location). l.action) (option_and_then (λ (m : Method). slice_get m.locations call.location) (slice_get methods call.method)) action at in
     sym found.2 ∙ option_and_then_some (λ (m : Method). slice_get m.locations call.location) (slice_get methods call.method) found.0 found.1
-      (λ m called here. found_of_all (λ (l : Location). l.action ≡ Action.Return false) m.locations call.location found.0 (found_of_all IsQuietMethod methods call.method m all called).1 here)
+    (λ m called here. found_of_all (λ (l : Location). l.action ≡ Action.Return false) m.locations call.location found.0 (found_of_all IsQuietMethod methods call.method m all called).1 here)
 
 told_of : (event told : Option Event) (w after : WorldState) → stepped event w ≡ stepped told after → event ≡ told
 told_of event told w after e = cc

@@ -1,8 +1,8 @@
 -- Owners of nodes after writes: shared nodes stay shared, and a node that a pointer of another comes to lead to is shared.
-use Rattle.std.proofs.Common.{◌≡◌, ◌≢◌, ℕ, zero, suc, ◌<◌, ◌⊎◌, Bool, true, false, eqb, List, [], ◌∷◌, ◌++◌, length, set, Option, Some, None, refl, sym, ap, ◌∙◌, subst, inl, inr, length-set}
+use Rattle.std.proofs.Common.{◌≡◌, ℕ, ◌⊎◌, Bool, true, false, eqb, List, [], ◌∷◌, ◌++◌, length, set, Option, Some, None, refl, sym, ◌∙◌, subst, inl, inr, length-set}
 use Rattle.std.specs.Prelude.{slice_get, slice_set, if◌then◌else◌}
 use Rattle.std.proofs.lemmas.Bool.{eqb-true, cases_eq}
-use Rattle.std.proofs.lemmas.Option.{none-some, same_Some}
+use Rattle.std.proofs.lemmas.Option.{none-some}
 use Rattle.plank_base.specs.declared.keys.NodeId.{NodeId}
 use Rattle.plank_base.specs.declared.keys.ThreadId.{ThreadId}
 use Rattle.plank_prog.specs.declared.blocks.Write.{Write}
@@ -44,15 +44,15 @@ shares_then a b c first second = record {
 set_shared : (owners : List (Option ℕ)) (y x : ℕ) → IsShared owners x → IsShared (set owners y None) x
 set_shared owners y x s =
     elim (cases_eq x y) [
-      inl same ↦ subst (λ z. IsShared (set owners y None) z) (sym same) (set_found owners y None None (subst (IsShared owners) same s))
-    | inr apart ↦ set_elsewhere owners y None x apart ∙ s
+      | inl same ↦ subst (λ z. IsShared (set owners y None) z) (sym same) (set_found owners y None None (subst (IsShared owners) same s))
+      | inr apart ↦ set_elsewhere owners y None x apart ∙ s
     ]
 
 set_own : (owners : List (Option ℕ)) (y x t : ℕ) → IsOwn owners x t → IsOwn (set owners y None) x t ⊎ IsShared (set owners y None) x
 set_own owners y x t o =
     elim (cases_eq x y) [
-      inl same ↦ inr (subst (λ z. IsShared (set owners y None) z) (sym same) (set_found owners y None (Some t) (subst (λ z. IsOwn owners z t) same o)))
-    | inr apart ↦ inl (set_elsewhere owners y None x apart ∙ o)
+      | inl same ↦ inr (subst (λ z. IsShared (set owners y None) z) (sym same) (set_found owners y None (Some t) (subst (λ z. IsOwn owners z t) same o)))
+      | inr apart ↦ inl (set_elsewhere owners y None x apart ∙ o)
     ]
 
 set_back : (owners : List (Option ℕ)) (y x t : ℕ) → IsOwn (set owners y None) x t → IsOwn owners x t
@@ -104,8 +104,8 @@ written_apart : (heap : Heap) (call : Call) (thread : ThreadId) (x : ℕ) (w : W
 written_apart heap call thread x (Write.Flag r flag to) owners node apart f z t at own = apart f z t at own
 written_apart heap call thread x (Write.Pointer r pointer to) owners node apart f z t at own =
     elim (found_after_set node.pointers pointer (value_of heap call to) f (Some z) at) [
-      inl h ↦ target_shared x t z owners (subst (λ o. IsOwn (shared_from x o owners) z.0 t) h.1 own)
-    | inr h ↦ apart f z t h.1 ((from_shares x (value_of heap call to) owners).back z.0 t own)
+      | inl h ↦ target_shared x t z owners (subst (λ o. IsOwn (shared_from x o owners) z.0 t) h.1 own)
+      | inr h ↦ apart f z t h.1 ((from_shares x (value_of heap call to) owners).back z.0 t own)
     ]
 written_apart heap call thread x (Write.TakeLock r) owners node apart f z t at own = apart f z t at own
 written_apart heap call thread x (Write.FreeLock r) owners node apart f z t at own = apart f z t at own

@@ -1,12 +1,12 @@
 -- Every ghost world of a run is sound, and what stays from one to a later one.
-use Rattle.std.proofs.Common.{◌≡◌, ◌≢◌, ℕ, zero, suc, ◌+◌, ◌<◌, ◌≤◌, ◌⊎◌, ℤ, Bool, true, false, eqb, List, [], ◌∷◌, ◌++◌, length, map, Option, Some, None, refl, sym, ap, ◌∙◌, subst, inl, inr, arith, length-append}
+use Rattle.std.proofs.Common.{◌≡◌, ◌≢◌, ℕ, zero, suc, ◌<◌, ◌≤◌, ℤ, Bool, true, false, List, [], ◌∷◌, ◌++◌, length, map, Option, Some, None, refl, sym, ap, ◌∙◌, subst, inl, inr, arith}
 use Rattle.std.proofs.lemmas.List.{length-map}
-use Rattle.std.specs.Prelude.{slice_get, slice_set, option_and_then, option_map, if◌then◌else◌}
+use Rattle.std.specs.Prelude.{slice_get, option_map, if◌then◌else◌}
 use Rattle.std.specs.Option.{option_map_or, option_flatten}
-use Rattle.std.specs.FinMap.{get, insert, remove, get-empty}
+use Rattle.std.specs.FinMap.{get, insert, get-empty}
 use Rattle.std.specs.Ordering.{nat_cmp}
-use Rattle.std.proofs.lemmas.Bool.{and_parts, cases_eq, eq-eqb, ne_eqb, ltb-true}
-use Rattle.std.proofs.lemmas.Option.{none-some, same_Some, slice_get_within, slice_get-map, option_and_then_some}
+use Rattle.std.proofs.lemmas.Bool.{and_parts, eq-eqb, ne_eqb, ltb-true}
+use Rattle.std.proofs.lemmas.Option.{none-some, same_Some, slice_get-map, option_and_then_some}
 use Rattle.plank_base.specs.declared.keys.NodeId.{NodeId}
 use Rattle.plank_base.specs.declared.keys.ThreadId.{ThreadId}
 use Rattle.plank_prog.specs.declared.headers.Header.{Header}
@@ -25,18 +25,18 @@ use Rattle.plank_sem.specs.declared.calls.Call.{Call}
 use Rattle.plank_sem.specs.declared.steps.Act.{Act}
 use Rattle.plank_sem.specs.declared.steps.Act.TheVariants.{Invoke, Go}
 use Rattle.plank_sem.specs.declared.steps.Choice.{Choice}
-use Rattle.plank_sem.specs.Worlds.{WorldState, Calls, start_world, fresh_call}
+use Rattle.plank_sem.specs.Worlds.{WorldState, fresh_call}
 use Rattle.plank_sem.specs.Reads.{value_of, tests_value}
 use Rattle.plank_sem.specs.Actions.{After, gone_to, bound, written, taken_yes, taken_no, block_run, copied, allocated}
-use Rattle.plank_sem.specs.Steps.{Next, stepped, refused, null_read, begun, went_on, ended, performed, action_of, gone_on, acted, next}
-use Rattle.plank_sem.specs.Fits.{AllNamed, CallFits, Fits}
-use Rattle.plank_sem.specs.Kept.{Kept, IsShared, IsOwn, updated, owners_written, owners_after, allocated_after, kept_invoked, kept_performed, kept_gone_on, kept_acted, GhostWorld, ghost_start, ghost_after, GhostRun, ghost_begins, ghost_goes_on}
-use Rattle.plank_sem.specs.Facts.{KeysStay, IsUsable, PointsTo, IsSound, Stays}
-use Rattle.plank_sem.proofs.Lists.{passes_at, push_found, push_last, flattened, mapped}
+use Rattle.plank_sem.specs.Steps.{stepped, refused, begun, went_on, performed, action_of, gone_on, acted, next}
+use Rattle.plank_sem.specs.Fits.{AllNamed, Fits}
+use Rattle.plank_sem.specs.Kept.{IsOwn, updated, owners_written, owners_after, kept_invoked, kept_performed, kept_gone_on, kept_acted, GhostWorld, ghost_start, ghost_after, GhostRun, ghost_begins, ghost_goes_on}
+use Rattle.plank_sem.specs.Facts.{IsUsable, IsSound, Stays}
+use Rattle.plank_sem.proofs.Lists.{passes_at, push_last, flattened, mapped}
 use Rattle.plank_sem.proofs.CallMaps.{found_after_insert, found_after_remove}
 use Rattle.plank_sem.proofs.NamedNodes.{all_named_set, value_in, bound_in}
 use Rattle.plank_sem.proofs.FitsKept.{fits_kept, none_named, world_of}
-use Rattle.plank_sem.proofs.Sharing.{Moves, moves_none}
+use Rattle.plank_sem.proofs.Sharing.{Moves}
 use Rattle.plank_sem.proofs.SoundHeaps.{HeapSound, HeapMoves, heap_stays, writes_move, fresh_moves, root_shared, usable_leads, shared_leads, path_shared, keys_same, keys_then}
 
 -- ---- calls
@@ -67,31 +67,31 @@ module _ (h : Header) (owners : List (Option ℕ)) (allocated_nodes : List ℕ) 
   all_usable_moves : (after : List (Option ℕ)) (variables : List (Option NodeId)) → Moves owners after
       → AllNamed (IsUsable owners allocated_nodes thread.0) variables → AllNamed (IsUsable after allocated_nodes thread.0) variables
   all_usable_moves after variables moves all v x at =
-    usable_moves owners after allocated_nodes allocated_nodes thread.0 x.0 moves (λ y k. k) (all v x at)
+      usable_moves owners after allocated_nodes allocated_nodes thread.0 x.0 moves (λ y k. k) (all v x at)
 
   yes_moves : (b : Block) (after : After) → taken_yes heap thread call b ≡ Some after
       → CallMoves h owners (owners_written heap call b.writes (Some true) owners) allocated_nodes thread.0 heap after
   yes_moves b after e =
-    option_and_then_some (λ (variables : List (Option NodeId)). option_map (λ next. record { heap = next; call = gone_to call b.yes variables }) (written heap thread call b.writes)) (bound heap call b.binds call.variables) after e
+      option_and_then_some (λ (variables : List (Option NodeId)). option_map (λ next. record { heap = next; call = gone_to call b.yes variables }) (written heap thread call b.writes)) (bound heap call b.binds call.variables) after e
       (λ variables is rest. option_and_then_some (λ (next : Heap). Some (record { heap = next; call = gone_to call b.yes variables })) (written heap thread call b.writes) after rest
-        (λ next is_written same. subst (CallMoves h owners (owners_written heap call b.writes (Some true) owners) allocated_nodes thread.0 heap) (same_Some _ after same)
-          (let moves = writes_move h owners heap thread call sound b.writes next is_written in
-          record {
-            heap = moves;
-            variables = all_usable_moves (owners_written heap call b.writes (Some true) owners) variables moves.moves
-              (bound_in (IsUsable owners allocated_nodes thread.0) heap call root_usable usable (usable_leads h owners heap closed sound allocated_nodes thread.0) b.binds call.variables variables usable is);
-          })))
+      (λ next is_written same. subst (CallMoves h owners (owners_written heap call b.writes (Some true) owners) allocated_nodes thread.0 heap) (same_Some _ after same)
+      (let moves = writes_move h owners heap thread call sound b.writes next is_written in
+      record {
+        heap = moves;
+        variables = all_usable_moves (owners_written heap call b.writes (Some true) owners) variables moves.moves
+            (bound_in (IsUsable owners allocated_nodes thread.0) heap call root_usable usable (usable_leads h owners heap closed sound allocated_nodes thread.0) b.binds call.variables variables usable is);
+      })))
 
   exit_moves : (b : Block) (passed : Bool) (after : After) → (if passed then taken_yes heap thread call b else Some (taken_no heap call b)) ≡ Some after
       → CallMoves h owners (owners_written heap call b.writes (Some passed) owners) allocated_nodes thread.0 heap after
   exit_moves b true after e = yes_moves b after e
   exit_moves b false after e =
-    subst (CallMoves h owners owners allocated_nodes thread.0 heap) (same_Some _ after e) (record { heap = heap_stays h owners heap sound; variables = usable })
+      subst (CallMoves h owners owners allocated_nodes thread.0 heap) (same_Some _ after e) (record { heap = heap_stays h owners heap sound; variables = usable })
 
   pub block_moves : (b : Block) (after : After) → block_run heap thread call b ≡ Some after
       → CallMoves h owners (owners_written heap call b.writes (tests_value heap thread call b.tests) owners) allocated_nodes thread.0 heap after
   block_moves b after e =
-    option_and_then_some (λ (passed : Bool). if passed then taken_yes heap thread call b else Some (taken_no heap call b)) (tests_value heap thread call b.tests) after e
+      option_and_then_some (λ (passed : Bool). if passed then taken_yes heap thread call b else Some (taken_no heap call b)) (tests_value heap thread call b.tests) after e
       (λ passed is rest. subst (λ o. CallMoves h owners (owners_written heap call b.writes o owners) allocated_nodes thread.0 heap after) (sym is) (exit_moves b passed after rest))
 
   pub copied_moves : (to : ℕ) (from : Value) (next : ℕ) → CallMoves h owners owners allocated_nodes thread.0 heap (copied heap call to from next)
@@ -102,17 +102,17 @@ module _ (h : Header) (owners : List (Option ℕ)) (allocated_nodes : List ℕ) 
 
   pub allocated_moves : (to next : ℕ) → CallMoves h owners (owners ++ Some thread.0 ∷ []) (length heap.nodes ∷ allocated_nodes) thread.0 heap (allocated heap call to next)
   allocated_moves to next =
-    let moves = fresh_moves h owners heap call.key thread.0 closed sound in
-    let after = owners ++ Some thread.0 ∷ [] in
-    let more = length heap.nodes ∷ allocated_nodes in
-    let fresh : NodeId = record { 0 = length heap.nodes } in
-    let own : IsOwn after (length heap.nodes) thread.0 = subst (λ n. IsOwn after n thread.0) sound.owned (push_last owners (Some thread.0)) in
-    record {
-      heap = moves;
-      variables = all_named_set (IsUsable after more thread.0) call.variables to (Some fresh)
-        (λ v x at. usable_moves owners after allocated_nodes more thread.0 x.0 moves.moves (λ y k. (suc k.0, k.1)) (usable v x at))
-        (λ x is. subst (λ (y : NodeId). IsUsable after more thread.0 y.0) (same_Some fresh x is) (inr (own, (0, refl))));
-    }
+      let moves = fresh_moves h owners heap call.key thread.0 closed sound in
+      let after = owners ++ Some thread.0 ∷ [] in
+      let more = length heap.nodes ∷ allocated_nodes in
+      let fresh : NodeId = record { 0 = length heap.nodes } in
+      let own : IsOwn after (length heap.nodes) thread.0 = subst (λ n. IsOwn after n thread.0) sound.owned (push_last owners (Some thread.0)) in
+      record {
+        heap = moves;
+        variables = all_named_set (IsUsable after more thread.0) call.variables to (Some fresh)
+            (λ v x at. usable_moves owners after allocated_nodes more thread.0 x.0 moves.moves (λ y k. (suc k.0, k.1)) (usable v x at))
+            (λ x is. subst (λ (y : NodeId). IsUsable after more thread.0 y.0) (same_Some fresh x is) (inr (own, (0, refl))));
+      }
 
 -- ---- ghost worlds
 
@@ -139,38 +139,38 @@ module _ (h : Header) (methods : List Method) (before : GhostWorld) (good : Good
   moved : (thread : ThreadId) (call : Call) (after : After) (owners : List (Option ℕ)) (more : List ℕ) (changes : ℕ → Bool)
       → CallMoves h before.kept.owners owners more thread.0 before.world.heap after
       → Goes h methods before (record {
-          world = record { heap = after.heap; calls = insert before.world.calls thread.0 after.call };
-          kept = record { owners = owners; allocated = updated before.kept.allocated thread.0 more; has_changed = changes };
-        })
+        world = record { heap = after.heap; calls = insert before.world.calls thread.0 after.call };
+        kept = record { owners = owners; allocated = updated before.kept.allocated thread.0 more; has_changed = changes };
+      })
   moved thread call after owners more changes moves = record {
     heap = moves.heap.sound;
     variables = λ t found at.
-      elim (found_after_insert before.world.calls thread.0 after.call t found at) [
-        inl e ↦
-          subst (λ nodes. AllNamed (IsUsable owners nodes t) found.variables) (sym (at_same before.kept.allocated thread.0 more t e.0))
-            (subst (λ u. AllNamed (IsUsable owners more u) found.variables) (sym e.0)
+        elim (found_after_insert before.world.calls thread.0 after.call t found at) [
+          | inl e ↦
+              subst (λ nodes. AllNamed (IsUsable owners nodes t) found.variables) (sym (at_same before.kept.allocated thread.0 more t e.0))
+              (subst (λ u. AllNamed (IsUsable owners more u) found.variables) (sym e.0)
               (subst (λ (c : Call). AllNamed (IsUsable owners more thread.0) c.variables) e.1 moves.variables))
-      | inr e ↦
-          subst (λ nodes. AllNamed (IsUsable owners nodes t) found.variables) (sym (at_other before.kept.allocated thread.0 more t e.0))
-            (λ v x named. usable_moves before.kept.owners owners (before.kept.allocated t) (before.kept.allocated t) t x.0 moves.heap.moves (λ y k. k) (good.variables t found e.1 v x named))
-      ];
+          | inr e ↦
+              subst (λ nodes. AllNamed (IsUsable owners nodes t) found.variables) (sym (at_other before.kept.allocated thread.0 more t e.0))
+              (λ v x named. usable_moves before.kept.owners owners (before.kept.allocated t) (before.kept.allocated t) t x.0 moves.heap.moves (λ y k. k) (good.variables t found e.1 v x named))
+        ];
     stays = record { same_root = moves.heap.same_root; keys = moves.heap.keys; shared = moves.heap.moves.shared };
   }
 
   begun_goes : (thread : ThreadId) (m : ℕ) (key : ℤ) (pending : Option Call) (method : Option Method) (event : Option Event) (after : WorldState)
       → begun before.world thread m key pending method ≡ stepped event after → Goes h methods before (record { world = after; kept = kept_invoked thread before.kept })
   begun_goes thread m key None (Some method) event after e =
-    subst (λ w. Goes h methods before (record { world = w; kept = kept_invoked thread before.kept })) (world_of _ event _ after e) (record {
-      heap = good.heap;
-      variables = λ t found at.
-        elim (found_after_insert before.world.calls thread.0 (fresh_call m key) t found at) [
-          inl same ↦ subst (λ (c : Call). AllNamed (IsUsable before.kept.owners ((kept_invoked thread before.kept).allocated t) t) c.variables) same.1
-            (none_named (IsUsable before.kept.owners ((kept_invoked thread before.kept).allocated t) t) 6)
-        | inr other ↦
-            subst (λ nodes. AllNamed (IsUsable before.kept.owners nodes t) found.variables) (sym (at_other before.kept.allocated thread.0 [] t other.0)) (good.variables t found other.1)
-        ];
-      stays = record { same_root = refl; keys = keys_same before.world.heap; shared = λ x s. s };
-    })
+      subst (λ w. Goes h methods before (record { world = w; kept = kept_invoked thread before.kept })) (world_of _ event _ after e) (record {
+        heap = good.heap;
+        variables = λ t found at.
+            elim (found_after_insert before.world.calls thread.0 (fresh_call m key) t found at) [
+              | inl same ↦ subst (λ (c : Call). AllNamed (IsUsable before.kept.owners ((kept_invoked thread before.kept).allocated t) t) c.variables) same.1
+                  (none_named (IsUsable before.kept.owners ((kept_invoked thread before.kept).allocated t) t) 6)
+              | inr other ↦
+                  subst (λ nodes. AllNamed (IsUsable before.kept.owners nodes t) found.variables) (sym (at_other before.kept.allocated thread.0 [] t other.0)) (good.variables t found other.1)
+            ];
+        stays = record { same_root = refl; keys = keys_same before.world.heap; shared = λ x s. s };
+      })
   begun_goes thread m key None None event after e = absurd (cc)
   begun_goes thread m key (Some call) method event after e = absurd (cc)
 
@@ -180,33 +180,33 @@ module _ (h : Header) (methods : List Method) (before : GhostWorld) (good : Good
       → Goes h methods before (record { world = after; kept = record { owners = owners; allocated = updated before.kept.allocated thread.0 more; has_changed = changes after.heap } })
   went_on_goes thread call None owners more changes event after moves e = absurd (cc)
   went_on_goes thread call (Some a) owners more changes event after moves e =
-    subst (λ w. Goes h methods before (record { world = w; kept = record { owners = owners; allocated = updated before.kept.allocated thread.0 more; has_changed = changes w.heap } }))
+      subst (λ w. Goes h methods before (record { world = w; kept = record { owners = owners; allocated = updated before.kept.allocated thread.0 more; has_changed = changes w.heap } }))
       (world_of _ event _ after e) (moved thread call a owners more (changes a.heap) (moves a refl))
 
   performed_goes : (thread : ThreadId) (call : Call) (action : Action) (event : Option Event) (after : WorldState) → get before.world.calls thread.0 ≡ Some call
       → performed before.world thread call action ≡ stepped event after
       → Goes h methods before (record { world = after; kept = kept_performed h before.world.heap after.heap thread call action before.kept })
   performed_goes thread call (Action.Block b) event after at e =
-    went_on_goes thread call (block_run before.world.heap thread call b) (owners_after before.world.heap thread call (Action.Block b) before.kept.owners) (before.kept.allocated thread.0)
+      went_on_goes thread call (block_run before.world.heap thread call b) (owners_after before.world.heap thread call (Action.Block b) before.kept.owners) (before.kept.allocated thread.0)
       (λ heap. (kept_performed h before.world.heap heap thread call (Action.Block b) before.kept).has_changed) event after
       (λ a is. block_moves h before.kept.owners (before.kept.allocated thread.0) before.world.heap thread call good.fits.heap good.heap (good.variables thread.0 call at) b a is) e
   performed_goes thread call (Action.Copy to from next) event after at e =
-    went_on_goes thread call (Some (copied before.world.heap call to from next)) before.kept.owners (before.kept.allocated thread.0)
+      went_on_goes thread call (Some (copied before.world.heap call to from next)) before.kept.owners (before.kept.allocated thread.0)
       (λ heap. (kept_performed h before.world.heap heap thread call (Action.Copy to from next) before.kept).has_changed) event after
       (λ a is. subst (CallMoves h before.kept.owners before.kept.owners (before.kept.allocated thread.0) thread.0 before.world.heap) (same_Some _ a is)
-        (copied_moves h before.kept.owners (before.kept.allocated thread.0) before.world.heap thread call good.fits.heap good.heap (good.variables thread.0 call at) to from next)) e
+      (copied_moves h before.kept.owners (before.kept.allocated thread.0) before.world.heap thread call good.fits.heap good.heap (good.variables thread.0 call at) to from next)) e
   performed_goes thread call (Action.New to next) event after at e =
-    went_on_goes thread call (Some (allocated before.world.heap call to next)) (before.kept.owners ++ Some thread.0 ∷ []) (length before.world.heap.nodes ∷ before.kept.allocated thread.0)
+      went_on_goes thread call (Some (allocated before.world.heap call to next)) (before.kept.owners ++ Some thread.0 ∷ []) (length before.world.heap.nodes ∷ before.kept.allocated thread.0)
       (λ heap. (kept_performed h before.world.heap heap thread call (Action.New to next) before.kept).has_changed) event after
       (λ a is. subst (CallMoves h before.kept.owners (before.kept.owners ++ Some thread.0 ∷ []) (length before.world.heap.nodes ∷ before.kept.allocated thread.0) thread.0 before.world.heap) (same_Some _ a is)
-        (allocated_moves h before.kept.owners (before.kept.allocated thread.0) before.world.heap thread call good.fits.heap good.heap (good.variables thread.0 call at) to next)) e
+      (allocated_moves h before.kept.owners (before.kept.allocated thread.0) before.world.heap thread call good.fits.heap good.heap (good.variables thread.0 call at) to next)) e
   performed_goes thread call (Action.Return answer) event after at e =
-    subst (λ w. Goes h methods before (record { world = w; kept = kept_performed h before.world.heap w.heap thread call (Action.Return answer) before.kept }))
+      subst (λ w. Goes h methods before (record { world = w; kept = kept_performed h before.world.heap w.heap thread call (Action.Return answer) before.kept }))
       (world_of _ event _ after e) (record {
         heap = good.heap;
         variables = λ t found is.
-          let old = found_after_remove before.world.calls thread.0 t found is in
-          subst (λ nodes. AllNamed (IsUsable before.kept.owners nodes t) found.variables) (sym (at_other before.kept.allocated thread.0 (before.kept.allocated thread.0) t old.0)) (good.variables t found old.1);
+            let old = found_after_remove before.world.calls thread.0 t found is in
+            subst (λ nodes. AllNamed (IsUsable before.kept.owners nodes t) found.variables) (sym (at_other before.kept.allocated thread.0 (before.kept.allocated thread.0) t old.0)) (good.variables t found old.1);
         stays = record { same_root = refl; keys = keys_same before.world.heap; shared = λ x s. s };
       })
 
@@ -234,8 +234,8 @@ module _ (h : Header) (methods : List Method) (before : GhostWorld) (good : Good
   pub step_good : are_lawful_methods h methods ≡ true → (choice : Choice) (event : Option Event) (after : WorldState) → next methods before.world choice ≡ stepped event after
       → Good h methods (ghost_after h methods before choice after)
   step_good lawful choice event after e =
-    let goes = step_goes choice event after e in
-    record { fits = fits_kept h methods lawful before.world choice event after good.fits e; heap = goes.heap; variables = goes.variables }
+      let goes = step_goes choice event after e in
+      record { fits = fits_kept h methods lawful before.world choice event after good.fits e; heap = goes.heap; variables = goes.variables }
 
 -- ---- the start
 
@@ -258,10 +258,10 @@ start_closed h lawful =
     record {
       root = subst (λ n. h.root < n) (sym same) (ltb-true h.root (length h.nodes) parts.0);
       pointers = λ x node found f to leads.
-        let at = mapped start_node (slice_get h.nodes x) node (sym (slice_get-map start_node h.nodes x) ∙ found) in
-        subst (λ n. to.0 < n) (sym same)
+          let at = mapped start_node (slice_get h.nodes x) node (sym (slice_get-map start_node h.nodes x) ∙ found) in
+          subst (λ n. to.0 < n) (sym same)
           (start_node_leads h at.0 (passes_at (is_lawful_start_node h) h.nodes x at.0 parts.1 at.1) f to
-            (subst (λ (n : Node). slice_get n.pointers f ≡ Some (Some to)) (sym at.2) leads));
+          (subst (λ (n : Node). slice_get n.pointers f ≡ Some (Some to)) (sym at.2) leads));
     }
 
 -- the start nodes are shared
@@ -324,6 +324,7 @@ one_good h methods g good = record { good = here_good; stays = here_stays }
     here_good : (i : ℕ) (x : GhostWorld) → slice_get (g ∷ []) i ≡ Some x → Good h methods x
     here_good zero x at = subst (Good h methods) (same_Some g x at) good
     here_good (suc i) x at = absurd (none-some x at)
+
     here_stays : (i k : ℕ) (later earlier : GhostWorld) → i ≤ k → slice_get (g ∷ []) i ≡ Some later → slice_get (g ∷ []) k ≡ Some earlier → Stays earlier later
     here_stays zero zero later earlier le at was = subst (λ x. Stays x later) (same_Some g earlier was) (subst (Stays g) (same_Some g later at) (stays_same g))
     here_stays zero (suc k) later earlier le at was = absurd (none-some earlier was)
@@ -336,6 +337,7 @@ more_good h methods before ghosts g good stays run = record { good = each_good; 
     each_good : (i : ℕ) (x : GhostWorld) → slice_get (g ∷ before ∷ ghosts) i ≡ Some x → Good h methods x
     each_good zero x at = subst (Good h methods) (same_Some g x at) good
     each_good (suc i) x at = run.good i x at
+
     each_stays : (i k : ℕ) (later earlier : GhostWorld) → i ≤ k → slice_get (g ∷ before ∷ ghosts) i ≡ Some later → slice_get (g ∷ before ∷ ghosts) k ≡ Some earlier → Stays earlier later
     each_stays zero zero later earlier le at was = subst (λ x. Stays x later) (same_Some g earlier was) (subst (Stays g) (same_Some g later at) (stays_same g))
     each_stays zero (suc k) later earlier le at was =
@@ -350,4 +352,4 @@ run_good {h} {methods} header lawful (ghost_goes_on {choices} {told} {before} {g
     let rest = run_good header lawful run in
     let good = rest.good 0 before refl in
     more_good h methods before ghosts (ghost_after h methods before choice after) (step_good h methods before good lawful choice event after step)
-      (step_goes h methods before good choice event after step).stays rest
+    (step_goes h methods before good choice event after step).stays rest

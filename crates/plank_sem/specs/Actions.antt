@@ -1,6 +1,6 @@
 -- What an action makes of the heap and of its call, from the values before it. None stands for a read or a write of a
 -- field of null.
-use Rattle.std.specs.Prelude.{ℕ, ◌<◌, Bool, true, false, List, [], ◌∷◌, length, slice_get, slice_set, Option, Some, None, option_map, option_and_then, if◌then◌else◌}
+use Rattle.std.specs.Prelude.{ℕ, ◌<◌, List, [], ◌∷◌, length, slice_get, slice_set, Option, Some, None, option_map, option_and_then, if◌then◌else◌}
 use Rattle.plank_base.specs.declared.keys.NodeId.{NodeId}
 use Rattle.plank_base.specs.declared.keys.ThreadId.{ThreadId}
 use Rattle.plank_prog.specs.Blocks.{written_node}

@@ -9,7 +9,7 @@ use Rattle.plank_heap.specs.Heaps.{IsClosed, start_heap}
 use Rattle.plank_heap.specs.Walks.{WalkVisits}
 use Rattle.plank_sem.specs.declared.calls.Call.{Call}
 use Rattle.plank_sem.specs.Fits.{AllNamed}
-use Rattle.plank_sem.specs.Kept.{Kept, GhostWorld, IsShared, IsOwn}
+use Rattle.plank_sem.specs.Kept.{GhostWorld, IsShared, IsOwn}
 
 -- every node is still there, with its key
 abbrev pub KeysStay : Heap → Heap → Type 0

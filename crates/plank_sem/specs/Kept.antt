@@ -1,8 +1,8 @@
 -- What is kept beside a world and no test reads: who owns each node, what a pending call has allocated, and whether it has
 -- changed the set. Runs with it are the same runs.
-use Rattle.std.specs.Prelude.{◌≡◌, ◌≢◌, ℕ, suc, ◌<◌, ℤ, Bool, true, false, not, ◌||◌, ◌==◌, List, [], ◌∷◌, ◌++◌, length, map, slice_get, slice_set, Option, Some, None, if◌then◌else◌}
+use Rattle.std.specs.Prelude.{◌≡◌, ℕ, suc, ◌<◌, ℤ, Bool, true, false, not, ◌||◌, ◌==◌, List, [], ◌∷◌, ◌++◌, length, map, slice_get, slice_set, Option, Some, None, if◌then◌else◌}
 use Rattle.std.specs.Bool.{beq}
-use Rattle.std.specs.Option.{option_map_or, option_and_then}
+use Rattle.std.specs.Option.{option_map_or}
 use Rattle.std.specs.FinMap.{get}
 use Rattle.plank_base.specs.declared.keys.NodeId.{NodeId}
 use Rattle.plank_base.specs.declared.keys.ThreadId.{ThreadId}
@@ -18,7 +18,7 @@ use Rattle.plank_sem.specs.declared.steps.Act.{Act}
 use Rattle.plank_sem.specs.declared.steps.Act.TheVariants.{Invoke, Go}
 use Rattle.plank_sem.specs.declared.steps.Choice.{Choice}
 use Rattle.plank_sem.specs.Worlds.{WorldState, start_world}
-use Rattle.plank_sem.specs.Reads.{named, value_of, tests_value}
+use Rattle.plank_sem.specs.Reads.{value_of, tests_value}
 use Rattle.plank_sem.specs.Actions.{written_in}
 use Rattle.plank_sem.specs.Steps.{next, stepped, action_of}
 use Rattle.plank_sem.specs.Runs.{call_age}

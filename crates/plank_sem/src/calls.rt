@@ -3,9 +3,7 @@ ghost use Rattle.plank_sem.specs.Reads.{same_target, has_lock};
 
 use plank_base::{Key, NodeId, ThreadId, VARIABLES_LIMIT};
 use plank_heap::{Heap, Node};
-use plank_prog::{
-    Bind, FlagOperand, KeyOperand, PointerOperand, Reference, Test, Value, has_flag,
-};
+use plank_prog::{Bind, FlagOperand, KeyOperand, PointerOperand, Reference, Test, Value, has_flag};
 
 /// How many variables a call may have, as the length of an array.
 pub const VARIABLES: usize = VARIABLES_LIMIT as usize;

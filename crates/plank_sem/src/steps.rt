@@ -1,5 +1,6 @@
 use plank_base::ThreadId;
 use plank_hist::Event;
+use thiserror::Error;
 
 /// What a thread does next.
 #[derive(Clone, Copy, Debug, PartialEq, Eq)]
@@ -25,12 +26,15 @@ pub struct Stepped {
 }
 
 /// Why a step was not made. The world is unchanged.
-#[derive(Clone, Copy, Debug, PartialEq, Eq)]
+#[derive(Clone, Copy, Debug, PartialEq, Eq, Error)]
 pub enum StepFault {
     /// `Go` of a thread without a call, or `Invoke` by a thread with one or of no method.
+    #[error("the thread cannot make this step")]
     NoSuchThread,
     /// The thread's block reads or writes a field of null.
+    #[error("a field of null is read or written")]
     NullRead,
     /// Memory was refused.
+    #[error("out of memory")]
     OutOfMemory,
 }

@@ -6,13 +6,16 @@ ghost use Rattle.std.specs.FinMap as map;
 use crate::calls::{Call, VARIABLES};
 use crate::pending::Pending;
 use crate::steps::{Act, Choice, StepFault, Stepped};
-use plank_base::ThreadId;
+use plank_base::{OutOfMemory, ThreadId};
 use plank_heap::Heap;
 use plank_hist::Event;
 use plank_prog::{Action, Block, Program, Value};
+use std::alloc::Global;
 use std::marker::Model;
 
 /// A world: a heap, and the pending call of each thread that has one.
+///
+/// Steps are atomic and sequentially consistent, and no node is used again.
 #[derive(Drop)]
 pub struct World {
     heap: Heap,
@@ -30,16 +33,29 @@ impl Model for World {
 }
 
 impl World {
+    ghost use Rattle.plank_sem.specs.Worlds.{start_world};
     ghost use Rattle.plank_sem.specs.Steps.{next, stepped, refused, null_read};
     ghost use Rattle.plank_sem.specs.Fits.{Fits};
 
+    /// The world before any call, with the start heap of a program.
+    pub fn start(alloc: Global, program: &Program) -> Result<World, OutOfMemory>
+        ensures world { IfOk result (λ w. w ≡ start_world program.now.header) }
+        ensures fits { IfOk result (λ w. Fits program.now.methods w) }
+    {
+        Ok(World {
+            heap: Heap::start(alloc, program)?,
+            calls: Pending::new(alloc),
+        })
+    }
+
+    /// The heap; takes no memory.
     pub fn heap(&self) -> &Heap
         ensures { result.now ≡ self.now.heap }
     {
         &self.heap
     }
 
-    /// The method and the location of the thread's pending call.
+    /// The method and the location of the thread's pending call; takes no memory.
     pub fn at(&self, thread: ThreadId) -> Option<(u32, u32)>
         ensures { result ≡ option_map (λ c. (c.method, c.location)) (map.get self.now.calls thread.0) }
     {
@@ -49,7 +65,11 @@ impl World {
         }
     }
 
-    /// Makes one step. After a refusal the world is unchanged.
+    /// Makes one step: an invocation, or the step at the location of the thread's pending call.
+    ///
+    /// `NoSuchThread` comes where `Go` names a thread without a pending call, or `Invoke` names a
+    /// thread with one or a method that is not there. `NullRead` comes where the thread's block reads
+    /// or writes a field of null. After each fault the world is unchanged.
     pub fn step(&mut self, program: &Program, choice: Choice) -> Result<Stepped, StepFault>
         requires few { length self.old.heap.nodes < 2 ^ 32 - 1 }
         requires fitting { Fits program.now.methods self.old }
@@ -93,7 +113,10 @@ impl World {
         ensures null { result ≡ Err StepFault.NullRead → acted program.now.methods self.old thread (Act.Invoke method key) ≡ null_read }
         ensures err { OnErr result (self.new ≡ self.old) }
     {
-        match (self.calls.get(thread), program.methods.as_slice().get(method as usize)) {
+        match (
+            self.calls.get(thread),
+            program.methods.as_slice().get(method as usize),
+        ) {
             (None, Some(called)) => {
                 let op = called.op;
                 match self.calls.insert(thread, Call::fresh(method, key)) {
@@ -119,14 +142,21 @@ impl World {
         };
         match action_at(program, &call) {
             Some(Action::Block(block)) => self.run_block(thread, &call, block),
-            Some(Action::Copy { to, from, next }) => Ok(self.copy(thread, &call, *to, *from, *next)),
+            Some(Action::Copy { to, from, next }) => Ok(self.copy(
+                thread, &call, *to, *from, *next,
+            )),
             Some(Action::New { to, next }) => self.allocate(thread, &call, *to, *next),
             Some(Action::Return(answer)) => Ok(self.answer(thread, &call, *answer)),
             None => Err(StepFault::NoSuchThread),
         }
     }
 
-    fn run_block(&mut self, thread: ThreadId, call: &Call, block: &Block) -> Result<Stepped, StepFault>
+    fn run_block(
+        &mut self,
+        thread: ThreadId,
+        call: &Call,
+        block: &Block,
+    ) -> Result<Stepped, StepFault>
         requires pending { IsSome (map.get self.old.calls thread.0) }
         requires binds { All (λ d. d.to < VARIABLES) block.now.binds }
         requires writes { All HasRoom block.now.writes }
@@ -154,7 +184,13 @@ impl World {
         Stepped { event: None }
     }
 
-    fn allocate(&mut self, thread: ThreadId, call: &Call, to: u8, next: u32) -> Result<Stepped, StepFault>
+    fn allocate(
+        &mut self,
+        thread: ThreadId,
+        call: &Call,
+        to: u8,
+        next: u32,
+    ) -> Result<Stepped, StepFault>
         requires few { length self.old.heap.nodes < 2 ^ 32 - 1 }
         requires pending { IsSome (map.get self.old.calls thread.0) }
         requires variable { to < VARIABLES }
