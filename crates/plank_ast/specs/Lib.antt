@@ -1,5 +1,0 @@
-pub mod Layout
-pub mod Prints
-pub mod Spelled
-pub mod Spelling
-pub mod Texts
