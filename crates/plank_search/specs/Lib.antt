@@ -1,0 +1,5 @@
+pub mod Assignments
+pub mod Answers
+pub mod Meanings
+pub mod Counting
+pub mod ExampleOrder
