@@ -23,9 +23,9 @@ const ROOT: Reference = Reference::Root;
 
 // An action, as tests write it down.
 #[derive(Clone, Copy)]
-enum Line<'a> {
+enum Line {
     // Tests, binds and writes, and the two exits.
-    Block(&'a [Test], &'a [Bind], &'a [Write], u32, u32),
+    Block(&'static [Test], &'static [Bind], &'static [Write], u32, u32),
     Copy(u8, Reference, u32),
     New(u8, u32),
     Return(bool),
@@ -225,37 +225,150 @@ const fn answered(thread: u32, answer: bool) -> Result<Option<Event>, StepFault>
     }))
 }
 
-const fn key_test(node: Reference, relation: KeyRelation) -> Test {
-    Test::Keys {
-        left: KeyOperand::Node(node),
-        relation,
-        right: KeyOperand::Argument,
-    }
-}
+const P_IS_LESS: Test = Test::Keys {
+    left: KeyOperand::Node(P),
+    relation: KeyRelation::Less,
+    right: KeyOperand::Argument,
+};
 
-const fn bind_next(to: u8, from: Reference) -> Bind {
-    Bind {
-        to,
-        from,
-        pointer: 0,
-    }
-}
+const C_IS_LESS: Test = Test::Keys {
+    left: KeyOperand::Node(C),
+    relation: KeyRelation::Less,
+    right: KeyOperand::Argument,
+};
+
+const C_IS_EQUAL: Test = Test::Keys {
+    left: KeyOperand::Node(C),
+    relation: KeyRelation::Equal,
+    right: KeyOperand::Argument,
+};
+
+const P_IS_C: Test = Test::Pointers {
+    left: PointerOperand::Node(P),
+    right: PointerOperand::Node(C),
+    equal: true,
+};
+
+const ROOT_IS_MARKED: Test = Test::Flag {
+    flag: FlagOperand {
+        node: ROOT,
+        flag: 0,
+    },
+    set: true,
+};
+
+const C_IS_NEXT_OF_P: Bind = Bind {
+    to: 1,
+    from: P,
+    pointer: 0,
+};
+
+const C_IS_NEXT_OF_ROOT: Bind = Bind {
+    to: 1,
+    from: ROOT,
+    pointer: 0,
+};
+
+const P_IS_NEXT_OF_ROOT: Bind = Bind {
+    to: 0,
+    from: ROOT,
+    pointer: 0,
+};
+
+const MARK_ROOT: Write = Write::Flag {
+    node: ROOT,
+    flag: 0,
+    value: true,
+};
+
+const NEXT_OF_ROOT_TO_C: Write = Write::Pointer {
+    node: ROOT,
+    pointer: 0,
+    value: Value::Node(C),
+};
+
+const OTHER_OF_ROOT_TO_ROOT: Write = Write::Pointer {
+    node: ROOT,
+    pointer: 1,
+    value: Value::Node(ROOT),
+};
+
+// `p` and `c` go along `next` until the key of `c` is not below `k`.
+static LOOKUP: [Line; 8] = [
+    Line::Copy(0, ROOT, 1),
+    Line::Block(&[], &[C_IS_NEXT_OF_P], &[], 2, 2),
+    Line::Block(&[C_IS_LESS], &[], &[], 3, 5),
+    Line::Copy(0, C, 4),
+    Line::Block(&[], &[C_IS_NEXT_OF_P], &[], 2, 2),
+    Line::Block(&[C_IS_EQUAL], &[], &[], 6, 7),
+    Line::Return(true),
+    Line::Return(false),
+];
+
+static READS_NULL: [Line; 2] = [
+    Line::Block(&[P_IS_LESS], &[], &[], 1, 1),
+    Line::Return(false),
+];
+
+static LOCKS: [Line; 3] = [
+    Line::Block(
+        &[Test::LockFree { node: ROOT }],
+        &[],
+        &[Write::TakeLock { node: ROOT }],
+        1,
+        0,
+    ),
+    Line::Block(
+        &[Test::LockOwn { node: ROOT }],
+        &[],
+        &[Write::FreeLock { node: ROOT }],
+        2,
+        2,
+    ),
+    Line::Return(true),
+];
+
+static UNLOCKS: [Line; 2] = [
+    Line::Block(
+        &[Test::LockOwn { node: ROOT }],
+        &[],
+        &[Write::FreeLock { node: ROOT }],
+        1,
+        1,
+    ),
+    Line::Return(false),
+];
+
+// `p` takes what `next` of the root leads to, while both pointers of the root come to lead to the root.
+static TURNS: [Line; 4] = [
+    Line::Copy(1, ROOT, 1),
+    Line::Block(
+        &[],
+        &[P_IS_NEXT_OF_ROOT],
+        &[NEXT_OF_ROOT_TO_C, OTHER_OF_ROOT_TO_ROOT],
+        2,
+        2,
+    ),
+    Line::Block(&[P_IS_C], &[], &[], 0, 3),
+    Line::Return(true),
+];
+
+static MARKS: [Line; 2] = [
+    Line::Block(
+        &[ROOT_IS_MARKED, P_IS_LESS],
+        &[C_IS_NEXT_OF_ROOT],
+        &[MARK_ROOT],
+        0,
+        1,
+    ),
+    Line::Block(&[C_IS_LESS], &[], &[], 0, 0),
+];
+
+static ALLOCATES: [Line; 2] = [Line::New(1, 1), Line::Return(true)];
 
 #[test]
 fn a_lookup_takes_five_steps(rt: HostRuntime) -> Result<(), Fail> {
-    let next = [bind_next(1, P)];
-    // `p` and `c` go along `next` until the key of `c` is not below `k`
-    let lookup = [
-        Line::Copy(0, ROOT, 1),
-        Line::Block(&[], &next, &[], 2, 2),
-        Line::Block(&[key_test(C, KeyRelation::Less)], &[], &[], 3, 5),
-        Line::Copy(0, C, 4),
-        Line::Block(&[], &next, &[], 2, 2),
-        Line::Block(&[key_test(C, KeyRelation::Equal)], &[], &[], 6, 7),
-        Line::Return(true),
-        Line::Return(false),
-    ];
-    let (program, mut world) = start(&rt, rt.alloc(), &lookup, &lookup)?;
+    let (program, mut world) = start(&rt, rt.alloc(), &LOOKUP, &LOOKUP)?;
     let steps = [
         (1, Act::Go, REFUSED),
         (1, Act::Invoke { method: 2, key: 7 }, REFUSED),
@@ -275,11 +388,7 @@ fn a_lookup_takes_five_steps(rt: HostRuntime) -> Result<(), Fail> {
 
 #[test]
 fn a_read_of_null_is_refused(rt: HostRuntime) -> Result<(), Fail> {
-    let reads = [
-        Line::Block(&[key_test(P, KeyRelation::Less)], &[], &[], 1, 1),
-        Line::Return(false),
-    ];
-    let (program, mut world) = start(&rt, rt.alloc(), &reads, &reads)?;
+    let (program, mut world) = start(&rt, rt.alloc(), &READS_NULL, &READS_NULL)?;
     let steps = [
         (3, FIRST, invoked(3)),
         (3, Act::Go, NULL),
@@ -299,17 +408,7 @@ fn holder(world: &World) -> Option<ThreadId> {
 
 #[test]
 fn a_lock_has_one_holder_who_alone_frees_it(rt: HostRuntime) -> Result<(), Fail> {
-    let is_free = [Test::LockFree { node: ROOT }];
-    let is_own = [Test::LockOwn { node: ROOT }];
-    let take = [Write::TakeLock { node: ROOT }];
-    let free = [Write::FreeLock { node: ROOT }];
-    let locks = [
-        Line::Block(&is_free, &[], &take, 1, 0),
-        Line::Block(&is_own, &[], &free, 2, 2),
-        Line::Return(true),
-    ];
-    let unlocks = [Line::Block(&is_own, &[], &free, 1, 1), Line::Return(false)];
-    let (program, mut world) = start(&rt, rt.alloc(), &locks, &unlocks)?;
+    let (program, mut world) = start(&rt, rt.alloc(), &LOCKS, &UNLOCKS)?;
     let takes = [
         (1, FIRST, invoked(1)),
         (1, Act::Go, QUIET),
@@ -334,30 +433,9 @@ fn a_lock_has_one_holder_who_alone_frees_it(rt: HostRuntime) -> Result<(), Fail>
     Ok(())
 }
 
-const fn pointer_write(pointer: u8, to: Reference) -> Write {
-    Write::Pointer {
-        node: ROOT,
-        pointer,
-        value: Value::Node(to),
-    }
-}
-
 #[test]
 fn a_block_reads_the_values_before_it(rt: HostRuntime) -> Result<(), Fail> {
-    let same = Test::Pointers {
-        left: PointerOperand::Node(P),
-        right: PointerOperand::Node(C),
-        equal: true,
-    };
-    // `p` takes what `next` of the root leads to, while both pointers of the root come to lead to `c`
-    let writes = [pointer_write(0, C), pointer_write(1, ROOT)];
-    let turns = [
-        Line::Copy(1, ROOT, 1),
-        Line::Block(&[], &[bind_next(0, ROOT)], &writes, 2, 2),
-        Line::Block(&[same], &[], &[], 0, 3),
-        Line::Return(true),
-    ];
-    let (program, mut world) = start(&rt, rt.alloc(), &turns, &turns)?;
+    let (program, mut world) = start(&rt, rt.alloc(), &TURNS, &TURNS)?;
     let steps = [
         (1, FIRST, invoked(1)),
         (1, Act::Go, QUIET),
@@ -373,22 +451,7 @@ fn a_block_reads_the_values_before_it(rt: HostRuntime) -> Result<(), Fail> {
 
 #[test]
 fn a_false_test_leaves_the_rest_undone(rt: HostRuntime) -> Result<(), Fail> {
-    let flag = FlagOperand {
-        node: ROOT,
-        flag: 0,
-    };
-    let marked = Test::Flag { flag, set: true };
-    let mark = Write::Flag {
-        node: ROOT,
-        flag: 0,
-        value: true,
-    };
-    let tests = [marked, key_test(P, KeyRelation::AtMost)];
-    let marks = [
-        Line::Block(&tests, &[bind_next(1, ROOT)], &[mark], 0, 1),
-        Line::Block(&[key_test(C, KeyRelation::Less)], &[], &[], 0, 0),
-    ];
-    let (program, mut world) = start(&rt, rt.alloc(), &marks, &marks)?;
+    let (program, mut world) = start(&rt, rt.alloc(), &MARKS, &MARKS)?;
     let steps = [
         (1, FIRST, invoked(1)),
         (1, Act::Go, QUIET),
@@ -402,8 +465,7 @@ fn a_false_test_leaves_the_rest_undone(rt: HostRuntime) -> Result<(), Fail> {
 
 #[test]
 fn a_fresh_node_has_the_argument_as_its_key(rt: HostRuntime) -> Result<(), Fail> {
-    let allocates = [Line::New(1, 1), Line::Return(true)];
-    let (program, mut world) = start(&rt, rt.alloc(), &allocates, &allocates)?;
+    let (program, mut world) = start(&rt, rt.alloc(), &ALLOCATES, &ALLOCATES)?;
     play(
         &rt,
         &mut world,
