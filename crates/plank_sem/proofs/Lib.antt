@@ -9,3 +9,5 @@ pub mod SoundHeaps
 pub mod SoundWorlds
 pub mod GhostRuns
 pub mod QuietRuns
+pub mod IdleSteps
+pub mod Moments

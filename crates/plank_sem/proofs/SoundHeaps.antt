@@ -191,7 +191,7 @@ admitted_leads admitting (p ∷ ps) (None ∷ targets) m e = leads_later None ta
 admitted_leads admitting (p ∷ ps) (Some to ∷ targets) m e =
     leads_first (admitting p) to targets (first_admitted admitting ps targets) m (admitted_leads admitting ps targets m) e
 
-next_points : (h : Header) (heap : Heap) (j : ℤ) (x m : ℕ) → next h heap j x ≡ Some m → PointsTo heap x m
+pub next_points : (h : Header) (heap : Heap) (j : ℤ) (x m : ℕ) → next h heap j x ≡ Some m → PointsTo heap x m
 next_points h heap j x m e =
     option_and_then_some (next_from h j) (slice_get heap.nodes x) m e (λ node found leads.
     let to = admitted_leads (λ p. admits p node.key node.flags j) h.pointers node.pointers m leads in

@@ -1,5 +1,12 @@
 -- Facts of every world of every run, by the steps alone: what nodes are named, pointed to and shared, and what never changes.
-use Rattle.std.specs.Prelude.{◌≡◌, ◌⊎◌, ℕ, ◌<◌, ℤ, List, length, slice_get, Option, Some}
+use Rattle.std.specs.Option.{option_map_or}
+use Rattle.plank_prog.specs.declared.methods.Method.{Method}
+use Rattle.plank_prog.specs.Methods.{is_site}
+use Rattle.plank_sem.specs.declared.steps.Act.{Act}
+use Rattle.plank_sem.specs.declared.steps.Choice.{Choice}
+use Rattle.plank_sem.specs.Worlds.{WorldState}
+use Rattle.plank_sem.specs.Steps.{action_of}
+use Rattle.std.specs.Prelude.{◌≡◌, ◌⊎◌, ◌↔◌, ℕ, ◌<◌, ℤ, Bool, false, List, length, slice_get, Option, Some, None}
 use Rattle.std.specs.FinMap.{get}
 use Rattle.plank_base.specs.declared.keys.NodeId.{NodeId}
 use Rattle.plank_prog.specs.declared.headers.Header.{Header}
@@ -46,3 +53,21 @@ pub record Stays (before after : GhostWorld) : Type 0 where
   pub same_root : after.world.heap.root ≡ before.world.heap.root
   pub keys : KeysStay before.world.heap after.world.heap
   pub shared : (x : ℕ) → IsShared before.kept.owners x → IsShared after.kept.owners x
+
+-- ---- steps that write nothing
+
+-- whether an act, by a thread with this pending call, comes to a block that writes
+abbrev pub acts_on_writes : List Method → Option Call → Act → Bool
+acts_on_writes methods pending (Act.Invoke m key) = false
+acts_on_writes methods None Act.Go = false
+acts_on_writes methods (Some call) Act.Go = option_map_or (λ action. is_site action) (action_of methods call) false
+
+-- whether a choice does
+abbrev pub comes_to_writes : List Method → WorldState → Choice → Bool
+comes_to_writes methods w choice = acts_on_writes methods (get w.calls choice.thread.0) choice.act
+
+-- after such a step the nodes that were there are as they were, with their owners, and walks visit what they visited
+pub record IsIdle (h : Header) (before after : GhostWorld) : Type 0 where
+  pub nodes : (x : ℕ) (node : Node) → slice_get before.world.heap.nodes x ≡ Some node → slice_get after.world.heap.nodes x ≡ Some node
+  pub owners : (x : ℕ) (owner : Option ℕ) → slice_get before.kept.owners x ≡ Some owner → slice_get after.kept.owners x ≡ Some owner
+  pub visits : (j : ℤ) (x : ℕ) → WalkVisits h before.world.heap j x ↔ WalkVisits h after.world.heap j x
