@@ -1,0 +1,10 @@
+use Rattle.std.proofs.Common.{◌≡◌, ◌++◌, drop}
+use Rattle.std.specs.List.{flat_map}
+use Rattle.plank_ast.specs.Spelled.{kinds}
+use Rattle.plank_ast.specs.Spelling.{test_line_tokens}
+use Rattle.plank_ast.proofs.statement_spelling.add_test_lines.Given as goal
+
+-- the tokens so far, with those of the parts that are left, are those of all parts
+abbrev pub invariant-loop-line : goal.invariant-loop-line
+invariant-loop-line l =
+    kinds l.out.items ++ flat_map test_line_tokens (drop l.line-index l.lines) ≡ kinds l.fn.out.items ++ flat_map test_line_tokens l.lines
