@@ -1,0 +1,9 @@
+pub mod Conditions
+pub mod Gives
+pub mod Grammar
+pub mod Header
+pub mod Outcomes
+pub mod Placing
+pub mod Readers
+pub mod Statements
+pub mod Texts
