@@ -1,0 +1,4 @@
+pub mod DeclaredNames
+pub mod DistinctNames
+pub mod FirstIsLeast
+pub mod NameSets

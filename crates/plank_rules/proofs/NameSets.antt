@@ -1,0 +1,26 @@
+-- Sets of borrowed names, as the lists of names that contracts see.
+use Rattle.std.proofs.Common.{◌≡◌, ℕ, Bool, List, [], ◌∷◌, ◌++◌, map, refl, ap, Bor, if◌then◌else◌, true, false}
+use Rattle.std.specs.List.{list_any}
+use Rattle.std.proofs.Common.{◌∙◌}
+use Rattle.std.proofs.lemmas.List.{map-append}
+use Rattle.indexmap.specs.IndexSet.{insert_key}
+use Rattle.plank_rules.specs.Declarations.{same_name, is_among, with_name}
+
+abbrev pub seen : List (Bor (List ℕ)) → List (List ℕ)
+seen keys = map (λ key. key.now) keys
+
+-- a test of what stands behind the borrows
+pub list_any-seen : (test : List ℕ → Bool) (keys : List (Bor (List ℕ))) → list_any (λ key. test key.now) keys ≡ list_any test (seen keys)
+list_any-seen test [] = refl
+list_any-seen test (k ∷ ks) = rw (list_any-seen test ks) refl
+
+-- one more name, or none
+seen-if : (here : Bool) (keys : List (Bor (List ℕ))) (name : Bor (List ℕ)) → seen (if here then keys else keys ++ name ∷ []) ≡ (if here then seen keys else seen keys ++ name.now ∷ [])
+seen-if true keys name = refl
+seen-if false keys name = map-append (λ key. key.now) keys (name ∷ [])
+
+-- a name that is inserted joins the names
+pub seen-insert : (keys : List (Bor (List ℕ))) (name : Bor (List ℕ)) → seen (insert_key (λ x y. same_name x.now y.now) keys name) ≡ with_name (seen keys) name.now
+seen-insert keys name =
+    ap (λ here. seen (if here then keys else keys ++ name ∷ [])) (list_any-seen (same_name name.now) keys)
+    ∙ seen-if (is_among (seen keys) name.now) keys name

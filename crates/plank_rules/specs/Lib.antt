@@ -1,0 +1,14 @@
+pub mod Atoms
+pub mod BrokenRules
+pub mod Conditions
+pub mod Declarations
+pub mod DeclaredNames
+pub mod Faults
+pub mod FirstOf
+pub mod Flow
+pub mod Headers
+pub mod Loops
+pub mod Meanings
+pub mod MethodRules
+pub mod Occurrences
+pub mod StatementRules

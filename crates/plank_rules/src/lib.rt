@@ -1,0 +1,26 @@
+//! The typing rules: which of them a text breaks, and where.
+#![tactic(auto)]
+
+mod accesses;
+mod atoms;
+mod block_names;
+mod blocks;
+mod broken;
+mod conditions;
+mod first;
+mod flow;
+mod headers;
+mod laws;
+mod loops;
+mod meanings;
+mod method_rules;
+mod method_tests;
+mod names;
+mod occurrences;
+mod scopes;
+mod statements;
+mod text_rules;
+
+pub use broken::Broken;
+pub use laws::{first_is_least, looks_up_what_is_declared};
+pub use text_rules::first_broken;

@@ -1,0 +1,27 @@
+use crate::names::Names;
+
+/// Where a condition or a test stands.
+#[derive(Clone, Copy, Debug, PartialEq, Eq)]
+pub(crate) enum Setting {
+    Edge,
+    Holds,
+    Keep,
+    Freeze,
+    Method,
+}
+
+/// What the header declares for all conditions and methods.
+#[derive(Debug, Drop)]
+pub(crate) struct Header<'a> {
+    pub(crate) flags: Names<'a>,
+    pub(crate) pointers: Names<'a>,
+    pub(crate) locks: bool,
+}
+
+/// What names mean in a condition or a method.
+#[derive(Debug, Drop)]
+pub(crate) struct Scope<'a> {
+    pub(crate) setting: Setting,
+    pub(crate) nodes: Names<'a>,
+    pub(crate) keys: Names<'a>,
+}
