@@ -1,0 +1,9 @@
+pub mod Numbers
+pub mod Conditions
+pub mod Headers
+pub mod Operands
+pub mod Statements
+pub mod Methods
+pub mod Limits
+pub mod Laws
+pub mod Checks

@@ -1,0 +1,177 @@
+ghost use Rattle.std.specs.Prelude.{◌≡◌, length, map, IfOk};
+ghost use Rattle.plank_type.specs.Numbers.{HasFewNames, names_of};
+ghost use Rattle.plank_type.specs.Headers.{walk_scope_of, freeze_scope_of, keep_scope_of, order_of, edge_of, pointer_of, keep_of, freeze_of, header_of};
+
+use crate::conditions::condition_of;
+use crate::names::{Names, copied, flag_names, is_same_name};
+use crate::start_nodes::{root_of, start_nodes_of};
+use plank_ast::{ConditionLine, Direction, NamedCondition, PointerLine, Text};
+use plank_base::{Label, OutOfMemory, Sequence};
+use plank_prog::{Condition, Header, Keep, KeyOrder, Pointer, Scope};
+use std::alloc::Global;
+
+fn walk_scope_of(names: &Names) -> Scope
+    ensures { result ≡ walk_scope_of names.now }
+{
+    Scope {
+        flags: names.flags.len(),
+        pointers: 0,
+        walked: true,
+        visited: false,
+    }
+}
+
+fn freeze_scope_of(names: &Names) -> Scope
+    ensures { result ≡ freeze_scope_of names.now }
+{
+    Scope {
+        flags: names.flags.len(),
+        pointers: 0,
+        walked: false,
+        visited: false,
+    }
+}
+
+fn keep_scope_of(names: &Names) -> Scope
+    ensures { result ≡ keep_scope_of names.now }
+{
+    Scope {
+        flags: names.flags.len(),
+        pointers: names.pointers.len(),
+        walked: true,
+        visited: true,
+    }
+}
+
+fn order_of(direction: Direction) -> KeyOrder
+    ensures { result ≡ order_of direction }
+{
+    match direction {
+        Direction::Ascending => KeyOrder::Ascending,
+        Direction::Descending => KeyOrder::Descending,
+        Direction::Free => KeyOrder::Free,
+    }
+}
+
+// The condition of the first edge of a pointer field.
+fn edge_of(
+    alloc: Global,
+    names: &Names,
+    edges: &[NamedCondition],
+    pointer: &Label,
+) -> Result<Option<Condition>, OutOfMemory>
+    requires few { HasFewNames names.now }
+    ensures { IfOk result (λ edge. edge ≡ edge_of names.now edges.now pointer.now) }
+{
+    for line in edges {
+        if is_same_name(pointer, &line.name.label) {
+            let condition = condition_of(alloc, names, walk_scope_of(names), &line.condition)?;
+            return Ok(Some(condition));
+        }
+    }
+    Ok(None)
+}
+
+fn pointer_of(
+    alloc: Global,
+    names: &Names,
+    edges: &[NamedCondition],
+    line: &PointerLine,
+) -> Result<Pointer, OutOfMemory>
+    requires few { HasFewNames names.now }
+    ensures { IfOk result (λ pointer. pointer ≡ pointer_of names.now edges.now line.now) }
+{
+    let name = copied(alloc, &line.name.label)?;
+    let edge = edge_of(alloc, names, edges, &line.name.label)?;
+    Ok(Pointer {
+        name,
+        order: order_of(line.direction),
+        edge,
+    })
+}
+
+fn pointers_of(
+    alloc: Global,
+    names: &Names,
+    edges: &[NamedCondition],
+    lines: &[PointerLine],
+) -> Result<Sequence<Pointer>, OutOfMemory>
+    requires few { HasFewNames names.now }
+    ensures { IfOk result (λ pointers. pointers ≡ map (pointer_of names.now edges.now) lines.now) }
+{
+    let mut pointers = Vec::new(alloc);
+    for line in lines {
+        pointers.push(pointer_of(alloc, names, edges, line)?)?;
+    }
+    Ok(Sequence::from_vec(pointers))
+}
+
+fn keep_of(alloc: Global, names: &Names, line: &NamedCondition) -> Result<Keep, OutOfMemory>
+    requires few { HasFewNames names.now }
+    ensures { IfOk result (λ keep. keep ≡ keep_of names.now line.now) }
+{
+    let name = copied(alloc, &line.name.label)?;
+    let condition = condition_of(alloc, names, keep_scope_of(names), &line.condition)?;
+    Ok(Keep { name, condition })
+}
+
+fn keeps_of(
+    alloc: Global,
+    names: &Names,
+    lines: &[NamedCondition],
+) -> Result<Sequence<Keep>, OutOfMemory>
+    requires few { HasFewNames names.now }
+    ensures { IfOk result (λ keeps. keeps ≡ map (keep_of names.now) lines.now) }
+{
+    let mut keeps = Vec::new(alloc);
+    for line in lines {
+        keeps.push(keep_of(alloc, names, line)?)?;
+    }
+    Ok(Sequence::from_vec(keeps))
+}
+
+fn freeze_of(
+    alloc: Global,
+    names: &Names,
+    line: &Option<ConditionLine>,
+) -> Result<Option<Condition>, OutOfMemory>
+    requires few { HasFewNames names.now }
+    ensures { IfOk result (λ freeze. freeze ≡ freeze_of names.now line.now) }
+{
+    match line {
+        Some(line) => {
+            let scope = freeze_scope_of(names);
+            Ok(Some(condition_of(alloc, names, scope, &line.condition)?))
+        }
+        None => Ok(None),
+    }
+}
+
+/// The header of a text whose names are few enough, and are these.
+pub(crate) fn header_of(alloc: Global, names: &Names, text: &Text) -> Result<Header, OutOfMemory>
+    requires few { HasFewNames names.now }
+    requires names { names.now ≡ names_of text.now }
+    ensures { IfOk result (λ header. header ≡ header_of text.now) }
+{
+    let pointers = pointers_of(
+        alloc,
+        names,
+        text.edges.as_slice(),
+        text.pointers.as_slice(),
+    )?;
+    let nodes = start_nodes_of(alloc, names, text.starts.as_slice())?;
+    let holds = condition_of(alloc, names, walk_scope_of(names), &text.holds.condition)?;
+    let keeps = keeps_of(alloc, names, text.keeps.as_slice())?;
+    let freeze = freeze_of(alloc, names, &text.freeze)?;
+    let flags = flag_names(alloc, text.flags.as_slice())?;
+    Ok(Header {
+        flags,
+        pointers,
+        has_lock: names.has_lock,
+        nodes,
+        root: root_of(names.nodes.as_slice(), text.roots.as_slice()),
+        holds,
+        keeps,
+        freeze,
+    })
+}

@@ -1,0 +1,19 @@
+ghost use Rattle.plank_type.specs.Laws.{LimitsHold, HeadersAreLawful, MethodsAreLawful};
+
+/// A law of definitions: where the tree of a text shows too much of nothing, it is within each limit of
+/// the tree. It does nothing.
+pub fn limits_hold()
+    ensures { LimitsHold }
+{}
+
+/// A law of definitions: the header of a well typed text within the limits is that of a program. It does
+/// nothing.
+pub fn headers_are_lawful()
+    ensures { HeadersAreLawful }
+{}
+
+/// A law of definitions: the methods of a well typed text within the limits are those of a program. It
+/// does nothing.
+pub fn methods_are_lawful()
+    ensures { MethodsAreLawful }
+{}
