@@ -1,1 +1,2 @@
-pub mod OneNodeRuns
+pub mod Accepting
+pub mod JudgedForms

@@ -1,14 +1,26 @@
--- What `verify` answers to a text: its status, and the bytes that it writes.
-use Rattle.std.specs.Prelude.{◌≡◌, ℕ, ◌+◌, Bool, true, false, List, Option, Some, None, codes}
-use Rattle.plank_base.specs.declared.places.Place.{Place}
+-- What each command answers to a text: its status, and the bytes that it writes.
+use Rattle.std.specs.Prelude.{◌≡◌, ℕ, ◌+◌, true, false, List, [], Option, Some, None, slice_get}
+use Rattle.std.specs.Option.{option_map_or}
 use Rattle.plank_base.specs.declared.limits.Thing.TheVariants as thing
 use Rattle.plank_base.specs.declared.limits.TheConstants.{BYTES_LIMIT}
 use Rattle.plank_base.specs.declared.obligations.Obligation.{Obligation}
-use Rattle.plank_base.specs.declared.obligations.Kind.TheVariants as kind
+use Rattle.plank_ast.specs.declared.texts.Text.{Text}
+use Rattle.plank_ast.specs.Layout.{layout}
+use Rattle.plank_ast.specs.Texts.{text_tokens}
+use Rattle.plank_rules.specs.declared.broken.Broken.{Broken}
+use Rattle.plank_rules.specs.BrokenRules.{broken_rules}
+use Rattle.plank_rules.specs.FirstOf.{first_of}
+use Rattle.plank_type.specs.declared.limits.Excess.{Excess}
+use Rattle.plank_type.specs.Limits.{first_excess}
+use Rattle.plank_type.specs.Checks.{IsProgramOf}
+use Rattle.plank_prog.specs.declared.methods.Method.{Method}
+use Rattle.plank_prog.specs.declared.programs.Program.{Program}
+use Rattle.plank_oblig.specs.Obligations.{IsFirstFailing, AllHold}
 use Rattle.plank_top.specs.declared.status.Status.{Status}
 use Rattle.plank_top.specs.declared.status.Status.TheVariants as status
 use Rattle.plank_top.specs.Lines.{line, refusal_text, report_text}
-use Rattle.plank_top.specs.OneNode.{IsOneNodeText}
+use Rattle.plank_top.specs.Trees.{IsTextOf, IsUnreadable}
+use Rattle.plank_top.specs.Forms.{is_judged_form}
 
 pub record Answer : Type 0 where
   pub status : Status
@@ -22,27 +34,49 @@ refusal status = record { status = status; output = line (refusal_text status) }
 abbrev pub too_many_bytes : Answer
 too_many_bytes = refusal (status.TooLarge thing.Bytes (BYTES_LIMIT + 1) BYTES_LIMIT)
 
--- the answer of a `contains` that answers true without having found its key
-abbrev pub unjustified_answer : Place → Obligation
-unjustified_answer place = record { kind = kind.Answer; method = 0; location = 0; place = place }
+-- ---- verify
 
--- the first obligation that fails: the set is empty, so only false is justified
-abbrev pub failing : Bool → Place → Option Obligation
-failing false place = None
-failing true place = Some (unjustified_answer place)
+-- every obligation of the program holds, or this one is the first that fails
+abbrev pub IsVerdict : Program → Option Obligation → Type 0
+IsVerdict p None = AllHold p.header p.methods
+IsVerdict p (Some o) = IsFirstFailing p.header p.methods o
 
 abbrev pub verdict : Option Obligation → Status
 verdict None = status.Accepted
 verdict (Some obligation) = status.Rejected obligation
 
--- the report on a structure whose method returns this at this place
-abbrev pub judged : List ℕ → Bool → Place → Answer
-judged structure answer place = record {
-  status = verdict (failing answer place);
-  output = report_text structure (failing answer place) (codes "contains");
+-- the name of the method that an obligation is of
+abbrev pub method_name : List Method → Option Obligation → List ℕ
+method_name methods None = []
+method_name methods (Some o) = option_map_or (λ m. m.name) (slice_get methods o.method) []
+
+-- the report on a program of which this obligation is the first that fails
+abbrev pub judged : Program → Option Obligation → Answer
+judged p failing = record {
+  status = verdict failing;
+  output = report_text p.name failing (method_name p.methods failing);
 }
 
--- a text of the form is judged, every other one is a later form
-pub data IsAnswerTo (text : List ℕ) (answer : Answer) : Type 0 where
-  verdict_of : (structure : List ℕ) (returned : Bool) (place : Place) → IsOneNodeText text structure returned place → answer ≡ judged structure returned place → IsAnswerTo text answer
-  later_form : ((structure : List ℕ) (returned : Bool) (place : Place) → IsOneNodeText text structure returned place → ⊥) → answer ≡ refusal status.LaterForm → IsAnswerTo text answer
+-- A text of the grammar is refused with the first rule that it breaks, else with the first thing that it
+-- has too much of; else it is a later form, or its program is judged.
+pub data IsJudgement (t : Text) (answer : Answer) : Type 0 where
+  ill_typed : (b : Broken) → first_of (broken_rules t) ≡ Some b → answer ≡ refusal (status.IllTyped b.kind b.place) → IsJudgement t answer
+  too_large : (e : Excess) → first_of (broken_rules t) ≡ None → first_excess t ≡ Some e → answer ≡ refusal (status.TooLarge e.thing e.count e.limit) → IsJudgement t answer
+  later_form : (p : Program) → IsProgramOf t p → is_judged_form t ≡ false → answer ≡ refusal status.LaterForm → IsJudgement t answer
+  by_verdict : (p : Program) → IsProgramOf t p → is_judged_form t ≡ true → (failing : Option Obligation) → IsVerdict p failing → answer ≡ judged p failing → IsJudgement t answer
+
+-- the answer of `verify`
+pub data IsVerifyAnswer (bytes : List ℕ) (answer : Answer) : Type 0 where
+  unreadable : (refused : Status) → IsUnreadable bytes refused → answer ≡ refusal refused → IsVerifyAnswer bytes answer
+  readable : (t : Text) → IsTextOf bytes t → IsJudgement t answer → IsVerifyAnswer bytes answer
+
+-- ---- print
+
+-- the text in canonical form
+abbrev pub printed : Text → Answer
+printed t = record { status = status.Done; output = layout (text_tokens t) }
+
+-- the answer of `print`, for which a text need not be well typed or within the limits of its program
+pub data IsPrintAnswer (bytes : List ℕ) (answer : Answer) : Type 0 where
+  unprintable : (refused : Status) → IsUnreadable bytes refused → answer ≡ refusal refused → IsPrintAnswer bytes answer
+  printable : (t : Text) → IsTextOf bytes t → answer ≡ printed t → IsPrintAnswer bytes answer

@@ -1,8 +1,9 @@
 pub mod Answers
 pub mod Endings
-pub mod Expected
+pub mod Forms
 pub mod Lines
-pub mod OneNode
 pub mod Replies
+pub mod Soundness
 pub mod Statuses
+pub mod Trees
 pub mod Words

@@ -1,19 +1,19 @@
-ghost use Rattle.std.specs.Prelude.{◌≡◌, ◌≢◌, ◌≤◌, List, ℕ, map, length};
+ghost use Rattle.std.specs.Prelude.{◌≡◌, ◌≢◌, ◌≤◌, List, ℕ, map, length, IfOk};
 ghost use Rattle.std.specs.String.{string_bytes};
 ghost use Rattle.plank_io.specs.Whole.{GivesAll};
 ghost use Rattle.plank_top.specs.declared.words.Command.{Command};
 ghost use Rattle.plank_top.specs.Words.{words_of};
 ghost use Rattle.plank_top.specs.Answers.{refusal};
 ghost use Rattle.plank_top.specs.Replies.{answer_in};
-ghost use Rattle.plank_top.specs.Endings.{Ends, Concludes, Serves, told};
-ghost use Rattle.plank_top.specs.OneNode.{IsSound};
+ghost use Rattle.plank_top.specs.Endings.{Answers, Ends, Concludes, Serves, told};
+ghost use Rattle.plank_top.specs.Soundness.{IsSound};
 
-use crate::replies::{Reply, refuse, verify};
+use crate::replies::{Reply, print, refuse, verify};
 use crate::status::Status;
 use crate::words::{Command, command_of};
 use plank_base::{BYTES_LIMIT, OutOfMemory, Thing};
 use plank_io::{Gate, Reading, Sink, Source, Written, read_up_to, write_all};
-use plank_sem::laws::answers_false_without_insert_law;
+use plank_oblig::accepted_runs_law;
 use std::alloc::Global;
 
 /// Writes a reply whole, and answers its status or the sink's fault.
@@ -36,15 +36,23 @@ fn end_refused<K: Sink>(alloc: Global, sink: &mut K, status: Status) -> Status
     }
 }
 
+/// What a command is to say to a whole text.
+fn reply_to(alloc: Global, command: Command, text: &[u8]) -> Result<Reply, OutOfMemory>
+    requires { length text.now ≤ BYTES_LIMIT }
+    ensures { IfOk result (λ r. Answers command text.now (answer_in r)) }
+{
+    match command {
+        Command::Verify => verify(alloc, text),
+        Command::Print => print(alloc, text),
+    }
+}
+
 /// Answers a whole text.
 fn conclude<K: Sink>(alloc: Global, command: Command, text: &[u8], sink: &mut K) -> Status
     requires { length text.now ≤ BYTES_LIMIT }
     ensures { Concludes command text.now (told (K.taken sink.old) (K.taken sink.new) (K.faults sink.old) (K.faults sink.new)) result }
 {
-    let reply = match command {
-        Command::Verify => verify(alloc, text),
-    };
-    match reply {
+    match reply_to(alloc, command, text) {
         Ok(reply) => finish(sink, &reply),
         Err(OutOfMemory) => Status::OutOfMemory,
     }
@@ -104,7 +112,7 @@ pub fn top<R, S: Source, K: Sink, G: Gate>(
     ensures sound { result ≡ Status.Accepted →
         (text : List ℕ) × GivesAll (S.left source.old) (S.left source.new) BYTES_LIMIT text × IsSound text }
 {
-    answers_false_without_insert_law();
+    accepted_runs_law();
     match command_of(words) {
         Some(command) => serve(alloc, command, source, sink),
         None => end_refused(alloc, sink, Status::Usage),

@@ -1,12 +1,17 @@
-ghost use Rattle.std.specs.Prelude.{◌≡◌, ◌≤◌, length, IfOk, map};
-ghost use Rattle.plank_top.specs.Answers.{refusal, judged, failing, IsAnswerTo};
+ghost use Rattle.std.specs.Prelude.{◌≡◌, ◌≤◌, length, IfOk};
+ghost use Rattle.plank_top.specs.Answers.{refusal, judged, printed, verdict, method_name, IsJudgement, IsVerifyAnswer, IsPrintAnswer};
 ghost use Rattle.plank_top.specs.Replies.{answer_in};
+ghost use Rattle.plank_type.specs.Checks.{IsProgramOf};
 
-use crate::one_node::{OneNode, one_node};
+use crate::forms::is_judged_form;
 use crate::printing::{refusal_line, report};
 use crate::status::Status;
-use plank_base::{BYTES_LIMIT, Kind, Obligation, OutOfMemory, Place};
-use plank_lex::{LexFault, lex};
+use crate::trees::{Tree, tree_of};
+use plank_ast::Text;
+use plank_base::{BYTES_LIMIT, Obligation, OutOfMemory};
+use plank_oblig::first_failing;
+use plank_prog::{Method, Program};
+use plank_type::{TypeFault, check};
 use std::alloc::Global;
 
 /// What a call is to say: its status, and the bytes that it writes.
@@ -24,46 +29,108 @@ pub fn refuse(alloc: Global, status: Status) -> Result<Reply, OutOfMemory>
     Ok(Reply { status, output })
 }
 
-/// The first obligation of the form that fails, if one does.
-fn failing(answer: bool, place: Place) -> Option<Obligation>
-    ensures { result ≡ failing answer place }
+/// The status of a verdict.
+fn verdict(failing: Option<Obligation>) -> Status
+    ensures { result ≡ verdict failing }
 {
-    if !answer {
-        return None;
-    }
-    Some(Obligation {
-        kind: Kind::Answer,
-        method: 0,
-        location: 0,
-        place,
-    })
-}
-
-/// The verdict on a text of the form, with its report.
-fn judge(alloc: Global, form: OneNode<'_>) -> Result<Reply, OutOfMemory>
-    ensures { IfOk result (λ r. answer_in r ≡ judged form.entry.structure.now form.entry.answer form.entry.place) }
-{
-    let failing = failing(form.answer, form.place);
-    let output = report(alloc, form.structure, failing, b"contains")?;
-    let status = match failing {
+    match failing {
         None => Status::Accepted,
         Some(obligation) => Status::Rejected(obligation),
+    }
+}
+
+/// The name of the method that an obligation is of; empty where there is none.
+fn method_name(methods: &[Method], failing: Option<Obligation>) -> &[u8]
+    ensures { result.now ≡ method_name methods.now failing }
+{
+    let Some(obligation) = failing else {
+        return &[];
     };
+    match methods.get(obligation.method as usize) {
+        Some(method) => method.name.as_bytes(),
+        None => &[],
+    }
+}
+
+/// The report on a program of which this obligation is the first that fails.
+fn report_on(
+    alloc: Global,
+    program: &Program,
+    failing: Option<Obligation>,
+) -> Result<Reply, OutOfMemory>
+    ensures { IfOk result (λ r. answer_in r ≡ judged program.now failing) }
+{
+    let method = method_name(program.methods.as_slice(), failing);
+    let output = report(alloc, program.name.as_bytes(), failing, method)?;
+    let status = verdict(failing);
     Ok(Reply { status, output })
 }
 
-/// Judges a text.
-pub fn verify(alloc: Global, text: &[u8]) -> Result<Reply, OutOfMemory>
-    requires { length text.now ≤ BYTES_LIMIT }
-    ensures { IfOk result (λ r. IsAnswerTo text.now (answer_in r)) }
+/// Judges a program of a text.
+fn judge_program(alloc: Global, text: &Text, program: &Program) -> Result<Reply, OutOfMemory>
+    requires { IsProgramOf text.now program.now }
+    ensures { IfOk result (λ r. IsJudgement text.now (answer_in r)) }
 {
-    let tokens = match lex(alloc, text) {
-        Ok(tokens) => tokens,
-        Err(LexFault::BadByte(_)) => return refuse(alloc, Status::LaterForm),
-        Err(LexFault::OutOfMemory) => return Err(OutOfMemory),
-    };
-    match one_node(&tokens) {
-        Some(form) => judge(alloc, form),
-        None => refuse(alloc, Status::LaterForm),
+    if !is_judged_form(text) {
+        return refuse(alloc, Status::LaterForm);
+    }
+    let failing = first_failing(program);
+    report_on(alloc, program, failing)
+}
+
+/// Types a text and judges its program.
+fn judge_text(alloc: Global, text: &Text) -> Result<Reply, OutOfMemory>
+    ensures { IfOk result (λ r. IsJudgement text.now (answer_in r)) }
+{
+    match check(alloc, text) {
+        Ok(program) => {
+            let reply = judge_program(alloc, text, &program);
+            drop(program);
+            reply
+        }
+        Err(TypeFault::Broken(kind, place)) => refuse(alloc, Status::IllTyped(kind, place)),
+        Err(TypeFault::TooMany(thing, count, limit)) => {
+            refuse(alloc, Status::TooLarge(thing, count, limit))
+        }
+        Err(TypeFault::OutOfMemory) => Err(OutOfMemory),
+    }
+}
+
+/// Judges a text.
+pub fn verify(alloc: Global, bytes: &[u8]) -> Result<Reply, OutOfMemory>
+    requires { length bytes.now ≤ BYTES_LIMIT }
+    ensures { IfOk result (λ r. IsVerifyAnswer bytes.now (answer_in r)) }
+{
+    match tree_of(alloc, bytes)? {
+        Tree::Text(text) => {
+            let reply = judge_text(alloc, &text);
+            drop(text);
+            reply
+        }
+        Tree::Refused(status) => refuse(alloc, status),
+    }
+}
+
+/// The canonical form of a text's tree.
+fn print_tree(alloc: Global, text: &Text) -> Result<Reply, OutOfMemory>
+    ensures { IfOk result (λ r. answer_in r ≡ printed text.now) }
+{
+    let output = plank_ast::print(alloc, text)?.into_bytes();
+    let status = Status::Done;
+    Ok(Reply { status, output })
+}
+
+/// Writes a text in canonical form.
+pub fn print(alloc: Global, bytes: &[u8]) -> Result<Reply, OutOfMemory>
+    requires { length bytes.now ≤ BYTES_LIMIT }
+    ensures { IfOk result (λ r. IsPrintAnswer bytes.now (answer_in r)) }
+{
+    match tree_of(alloc, bytes)? {
+        Tree::Text(text) => {
+            let reply = print_tree(alloc, &text);
+            drop(text);
+            reply
+        }
+        Tree::Refused(status) => refuse(alloc, status),
     }
 }

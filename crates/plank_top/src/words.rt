@@ -8,6 +8,8 @@ ghost use Rattle.plank_top.specs.Words.{words_of};
 pub enum Command {
     /// Judges the text of the source.
     Verify,
+    /// Writes the text of the source in canonical form.
+    Print,
 }
 
 /// The command that the words name. The program's own name is not among them.
@@ -17,6 +19,7 @@ pub fn command_of(words: &[String]) -> Option<Command>
 {
     match words {
         [word] if word.as_str() == "verify" => Some(Command::Verify),
+        [word] if word.as_str() == "print" => Some(Command::Print),
         _ => None,
     }
 }

@@ -14,3 +14,8 @@ pub returns-in-len1-clause-named : goal.returns-in-len1-clause-named
 returns-in-len1-clause-named c =
     only_element string_bytes c.args.words.now c.word-item.result (codes "verify") (omega arith) (omega arith) c.word-item.is
     (sym c.as_str.ensures.value ∙ (bytes_eq-Decides c.as_str.result.now (codes "verify")).0 (sym c.eq.ensures ∙ c.if-eq.true))
+
+pub returns-in-len1-2-clause-named : goal.returns-in-len1-2-clause-named
+returns-in-len1-2-clause-named c =
+    only_element string_bytes c.args.words.now c.word-item-then-words-lt2.result (codes "print") (omega arith) (omega arith) c.word-item-then-words-lt2.is
+    (sym c.as_str-then-words-lt2.ensures.value ∙ (bytes_eq-Decides c.as_str-then-words-lt2.result.now (codes "print")).0 (sym c.eq-then-words-lt2.ensures ∙ c.if-eq-2.true))
