@@ -18,7 +18,7 @@ enum Outcome {
 
 use Outcome::{Fine, TooDeep, Unexpected};
 
-fn outcome(rt: &impl Abort, alloc: Global, text: &[u8]) -> Outcome {
+fn outcome_of(rt: &impl Abort, alloc: Global, text: &[u8]) -> Outcome {
     assert!(rt; text.len() <= 65_536);
     let Ok(tokens) = lex(alloc, text) else {
         return Outcome::Other;
@@ -66,7 +66,11 @@ fn a_text_that_stops_is_refused_where_it_stops(rt: HostRuntime) {
         ),
     ];
     for (text, wanted) in rows {
-        assert_eq!(rt; outcome(&rt, rt.alloc(), text.as_bytes()), wanted, "{text}");
+        assert_eq!(rt;
+            outcome_of(&rt, rt.alloc(), text.as_bytes()),
+            wanted,
+            "{text}"
+        );
     }
 }
 
@@ -141,7 +145,11 @@ fn the_first_token_that_does_not_go_on_is_told(rt: HostRuntime) {
         ),
     ];
     for (text, wanted) in rows {
-        assert_eq!(rt; outcome(&rt, rt.alloc(), text.as_bytes()), wanted, "{text}");
+        assert_eq!(rt;
+            outcome_of(&rt, rt.alloc(), text.as_bytes()),
+            wanted,
+            "{text}"
+        );
     }
 }
 
@@ -182,7 +190,7 @@ fn thirty_two_brackets_may_be_open(rt: HostRuntime) -> Result<(), Fail> {
     ];
     for (before, part, times, after, wanted) in rows {
         let text = repeated(rt.alloc(), before, part, times, after)?;
-        assert_eq!(rt; outcome(&rt, rt.alloc(), text.as_slice()), wanted);
+        assert_eq!(rt; outcome_of(&rt, rt.alloc(), text.as_slice()), wanted);
     }
     Ok(())
 }
