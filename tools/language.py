@@ -1,4 +1,4 @@
-"""The language as far as the tools need it: lexemes, reserved words, and which texts are a later form."""
+"""The language as far as the tools need it: lexemes and reserved words."""
 
 import re
 
@@ -21,9 +21,9 @@ CLASSES = [
     [b"break", b"continue"],
     [b"if", b"while"],
     [b"&&", b"||"],
-    [b"insert", b"delete", b"contains"],
+    [b"insert", b"delete", b"contains", b"upkeep"],
 ]
-LATER_WORDS = {b"write", b"new", b"lock", b"unlock", b"freeze"}
+BYTES_LIMIT = 131_072
 
 
 def tokens_of(text):
@@ -37,13 +37,3 @@ def tokens_of(text):
             tokens.append(found[0])
         at = found.end()
     return tokens
-
-
-def is_later_form(text):
-    """Whether a text of the grammar writes, allocates, locks or freezes, or has a method that is not one return."""
-    tokens = tokens_of(text)
-    if LATER_WORDS & set(tokens):
-        return True
-    methods = [place for place, token in enumerate(tokens) if token == b"method"]
-    bodies = [tokens[tokens.index(b"{", place) + 1 :][:4] for place in methods]
-    return any(body not in ([b"return", value, b";", b"}"] for value in (b"true", b"false")) for body in bodies)

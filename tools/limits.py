@@ -1,6 +1,6 @@
 """Texts at a limit and beyond it, cut texts, and texts with bytes and gaps put in."""
 
-from language import LEXEME
+from language import BYTES_LIMIT, LEXEME
 
 
 def one_node(
@@ -40,32 +40,36 @@ def numbered(line, count, first=1):
 
 def limits():
     for over in (-1, 0, 1, 5):
-        yield f"flags 3{over:+}", one_node(fields=numbered("flag f{i};\n", 3 + over))
+        yield f"flags 6{over:+}", one_node(fields=numbered("flag f{i};\n", 6 + over))
         pointers, edges = numbered("ptr f{i} free;\n", 2 + over), numbered("edge f{i} : false;\n", 2 + over)
         yield f"pointers 2{over:+}", one_node(fields=pointers, edges=edges)
-        yield f"nodes 8{over:+}", one_node(starts=numbered("start b{i} {{ key = MAX; }}\n", 7 + over))
-        others = numbered("method m{i} as delete(k) {{ return false; }}\n", 7 + over)
-        yield f"methods 8{over:+}", one_node(methods=others)
-        names = ", ".join(f"v{i}" for i in range(6 + over))
-        yield f"variables 6{over:+}", one_node(body=f"var {names}; return false;")
-        second = f"method insert(k) {{ var {names}; return false; }}\n"
-        yield f"variables 6{over:+} of the second", one_node(methods=second)
-        yield f"locations 96{over:+}", one_node(body=f"var p; {'p = root; ' * (95 + over)}return false;")
-        writes, locks = "atomic { write root.up = false; } " * (24 + over), "lock root; " * (24 + over)
-        yield f"sites 24{over:+}", one_node(fields="flag up;\n", body=writes + "return false;")
-        yield f"locks 24{over:+}", one_node(fields="lock;\n", body=locks + "return false;")
-    for lock in ("", "lock;\n"):
-        pointers = "ptr f1 free;\nptr f2 free;\n" + lock
-        body = "var v1, v2, v3, v4, v5; atomic { with v1, v2, v3, v4, v5; write root.f1 = null; } return false;"
-        yield f"facts {lock!r}", one_node(fields=pointers, body=body)
-    flags, pointers = numbered("flag f{i};\n", 4), numbered("ptr p{i} free;\n", 3)
+        yield f"nodes 16{over:+}", one_node(starts=numbered("start b{i} {{ key = MAX; }}\n", 15 + over))
+        others = numbered("method m{i} as delete(k) {{ return false; }}\n", 15 + over)
+        yield f"methods 16{over:+}", one_node(methods=others)
+        for freeze, limit in (("", 7), ("freeze true;\n", 6)):
+            names = ", ".join(f"v{i}" for i in range(limit + over))
+            label = f"variables {limit}{over:+} {freeze.strip()}"
+            yield label, one_node(keeps=freeze, body=f"var {names}; return false;")
+            second = f"method insert(k) {{ var {names}; return false; }}\n"
+            yield f"{label} of the second", one_node(keeps=freeze, methods=second)
+        yield f"locations 192{over:+}", one_node(body=f"var p; {'p = root; ' * (191 + over)}return false;")
+        writes, locks = "atomic { write root.up = false; } " * (48 + over), "lock root; " * (48 + over)
+        yield f"sites 48{over:+}", one_node(fields="flag up;\n", body=writes + "return false;")
+        yield f"locks 48{over:+}", one_node(fields="lock;\n", body=locks + "return false;")
+    names = ", ".join(f"v{i}" for i in range(1, 8))
+    body = f"var {names}; atomic {{ with {names}; write root.p1 = null; }} return false;"
+    for count in range(3, 7):
+        for lock in ("", "lock;\n"):
+            fields = numbered("flag f{i};\n", count) + numbered("ptr p{i} free;\n", 2) + lock
+            yield f"facts with {count} flags {lock!r}", one_node(fields=fields, body=body)
+    flags, pointers = numbered("flag f{i};\n", 7), numbered("ptr p{i} free;\n", 3)
     yield "two limits", one_node(fields=flags + pointers)
     yield "a limit and a broken rule", one_node(fields=flags, holds="x.other")
     yield "a limit and a bad byte", one_node(fields=flags, holds="false;#")
 
 
 def sizes():
-    for size in (65_534, 65_535, 65_536, 65_537, 65_538, 70_000):
+    for size in (65_536, BYTES_LIMIT - 1, BYTES_LIMIT, BYTES_LIMIT + 1, BYTES_LIMIT + 2, 140_000):
         base = one_node()
         yield f"{size} bytes by a comment", base + b"//" + b"a" * (size - len(base) - 2)
         yield f"{size} bytes of blanks", b" " * (size - len(base)) + base

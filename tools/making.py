@@ -102,7 +102,7 @@ class Maker:
         return lines
 
     def single_return(self, i):
-        kind = self.one("contains", "contains", "contains", "insert", "delete")
+        kind = self.one("contains", "contains", "contains", "insert", "delete", "upkeep")
         name = kind if i == 0 else f"method{i} as {kind}"
         value = self.one("false", "false", "false", "true")
         return f"method {name}(k) {{ return {value}; }}"
@@ -163,7 +163,7 @@ class Maker:
         return f"{{ {first}{self.statements(depth - 1, in_loop)} }}"
 
     def method(self, i):
-        kind = self.one("contains", "insert", "delete", "other" if self.slip() else "contains")
+        kind = self.one("contains", "insert", "delete", "upkeep", "other" if self.slip() else "contains")
         name = kind if i == 0 else f"method{i} as {kind}"
         last = "" if self.rng.random() < 0.1 else " return false;"
         return f"method {name}(k) {{ var p, c, n; {self.statements(3, False)}{last} }}"

@@ -11,21 +11,27 @@ from limits import cuts, every_byte, gaps, limits, nestings, one_node, sizes
 from making import made_methods, made_single_returns
 
 
-def worked(shared):
-    """The worked texts and the examples, each once."""
-    examples = pathlib.Path(__file__).resolve().parent.parent / "examples"
-    files = sorted(shared.glob("texts/*.txt")) + sorted(shared.glob("rows/*/stdin")) + sorted(examples.glob("*.plank"))
+EXAMPLES = pathlib.Path(__file__).resolve().parent.parent / "examples"
+
+
+def worked(folders):
+    """The examples and the texts below the folders, each once."""
+    files = [file for folder in [EXAMPLES, *folders] for file in sorted(folder.rglob("*")) if is_text(file)]
     found = {}
     for file in files:
         found.setdefault(file.read_bytes(), f"{file.parent.name}/{file.name}")
     return [(label, text) for text, label in found.items()]
 
 
-def cases(shared, seed, count):
+def is_text(file):
+    return file.is_file() and (file.suffix in (".plank", ".txt") or file.name == "stdin")
+
+
+def cases(folders, seed, count):
     """All cases, as pairs of a label and a text: `count` changed ones, three quarters as many that are made from the
     grammar and partly changed, and the others."""
     rng = random.Random(seed)
-    bases = worked(shared)
+    bases = worked(folders)
     yield from bases
     small = [(label, text) for label, text in bases if 0 < len(text) <= 4_096]
     for i in range(count):

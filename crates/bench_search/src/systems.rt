@@ -1,5 +1,6 @@
-use plank_base::{OutOfMemory, Sequence};
+use plank_base::OutOfMemory;
 use plank_search::{Clauses, Count, Counts, Literal};
+use sqlite_items::Items;
 use std::alloc::Global;
 
 /// A system of counts and clauses over a number of parts.
@@ -27,12 +28,12 @@ pub fn pigeonholes(alloc: Global, pigeons: usize, holes: usize) -> Result<System
     })
 }
 
-fn following(alloc: Global, first: usize, count: usize) -> Result<Sequence<usize>, OutOfMemory> {
+fn following(alloc: Global, first: usize, count: usize) -> Result<Items<usize>, OutOfMemory> {
     let mut parts = Vec::with_capacity(alloc, count)?;
     for step in 0..count {
         parts.push(first.saturating_add(step))?;
     }
-    Ok(Sequence::from_vec(parts))
+    Ok(Items::from_vec(parts))
 }
 
 fn exclusions(alloc: Global, pigeons: usize, holes: usize) -> Result<Clauses, OutOfMemory> {
@@ -101,11 +102,11 @@ impl Draws {
         alloc: Global,
         size: usize,
         bound: usize,
-    ) -> Result<Sequence<usize>, OutOfMemory> {
+    ) -> Result<Items<usize>, OutOfMemory> {
         let mut parts = Vec::with_capacity(alloc, size)?;
         for _ in 0..size {
             parts.push(self.below(bound))?;
         }
-        Ok(Sequence::from_vec(parts))
+        Ok(Items::from_vec(parts))
     }
 }

@@ -13,8 +13,6 @@ mod printing;
 mod spelling;
 mod statement_spelling;
 mod statements;
-#[cfg(test)]
-mod tests;
 mod text_spelling;
 mod texts;
 

@@ -1,2 +1,4 @@
+pub mod Digits
+pub mod KeyOrder
 pub mod Paths
 pub mod PathCounts

@@ -1,4 +1,6 @@
-ghost use Rattle.std.specs.Prelude.{◌≡◌, ◌≢◌, ◌⊎◌, ◌↔◌, ℕ, ◌<◌, suc, Option, Some, None, IsTrue};
+ghost use Rattle.std.specs.Prelude.{◌≡◌, ◌≢◌, ◌⊎◌, ◌↔◌, ℕ, ℤ, ◌<◌, suc, true, Option, Some, None, IsTrue};
+ghost use Rattle.plank_base.specs.declared.keys.Key.{Key};
+ghost use Rattle.plank_base.specs.Keys.{is_at_most};
 ghost use Rattle.plank_base.specs.Paths.{Path, EndsAt, NeverEnds, IsOnCycle, off, Visits, MeetsBeyond, Extends, AgreeOff, FollowsOrStops, StopsBefore, IsUndefinedFrom, StaysBelow, after, meets_within, end_within};
 
 /// Laws of the paths of a partial function: of walks of keys and of chains of frozen nodes. It does nothing.
@@ -35,4 +37,13 @@ pub fn bounded_path_laws()
         IsUndefinedFrom f n → ((end_within f n a ≡ Some b) ↔ EndsAt f a b) }
     ensures no_end { (f : ℕ → Option ℕ) (n a : ℕ) →
         IsUndefinedFrom f n → ((end_within f n a ≡ None) ↔ NeverEnds f a) }
+{}
+
+/// Laws of the order of keys: it is total and transitive, it lies between its ends, and numbers that lie
+/// at or below each other are one. It does nothing.
+pub fn key_laws()
+    ensures total { (a b : Key) → (is_at_most a b ≡ true) ⊎ (is_at_most b a ≡ true) }
+    ensures transitive { (a b c : Key) → is_at_most a b ≡ true → is_at_most b c ≡ true → is_at_most a c ≡ true }
+    ensures ends { (a : Key) → (is_at_most Key.Min a ≡ true) × (is_at_most a Key.Max ≡ true) }
+    ensures numbers { (x y : ℤ) → is_at_most (Key.Num x) (Key.Num y) ≡ true → is_at_most (Key.Num y) (Key.Num x) ≡ true → x ≡ y }
 {}

@@ -2,17 +2,13 @@
 -- marks, and their union is the least closed set.
 use Rattle.std.proofs.Common.{◌≡◌, ◌≢◌, ◌⊎◌, ◌↔◌, ℕ, zero, suc, ◌+◌, ◌-◌, ◌*◌, ◌<◌, ◌≤◌, ◌||◌, cond, Bool, true, false, List, length, refl, sym, ◌∙◌, subst, inl, inr, arith}
 use Rattle.std.proofs.lemmas.Bool.{cases_eq, cases_lt, false≢true, or_cases, or_left, or_right}
+use Rattle.plank_base.proofs.Digits.{same_tests, more_digits}
 use Rattle.plank_bits.specs.Words.{has, IsWithin, count_below}
 use Rattle.plank_bits.specs.Forced.{IsForced, IsClosed, IsLeast, IsRound, AreRounds, IsUnion, IsMonotone, IsBounded}
 use Rattle.std.proofs.Math.Nat.{mul-le-mul_left}
 use Rattle.plank_bits.proofs.SetLemmas.{member_below, count_below-none, count_below-suc, count_below-le}
 
 -- ---- sets within one another, and how many members they have
-
-more_digits : (x y : Bool) → (x ≡ true → y ≡ true) → cond x 1 0 ≤ cond y 1 0
-more_digits false y h = omega arith
-more_digits true true h = omega arith
-more_digits true false h = absurd (false≢true (h refl))
 
 -- a larger set has at least as many members
 pub count_below-within : (a b : ℕ → Bool) (n : ℕ) → IsWithin a b → count_below a n ≤ count_below b n
@@ -228,9 +224,4 @@ steps_in_all forces n words xs before between now r cost =
 
 -- the least closed marks are one set
 pub least_is_one : (forces : ℕ → (ℕ → Bool) → ℕ → Type 0) (n : ℕ) (a b : ℕ → Bool) → IsLeast forces n a → IsLeast forces n b → (k : ℕ) → a k ≡ b k
-least_is_one forces n a b x y k = same_from_each_way (a k) (b k) (x.within b y.closed k) (y.within a x.closed k)
-  where
-    same_from_each_way : (v w : Bool) → (v ≡ true → w ≡ true) → (w ≡ true → v ≡ true) → v ≡ w
-    same_from_each_way true w f h = sym (f refl)
-    same_from_each_way false true f h = h refl
-    same_from_each_way false false f h = refl
+least_is_one forces n a b x y k = same_tests (a k) (b k) (x.within b y.closed k) (y.within a x.closed k)

@@ -6,8 +6,9 @@ use Rattle.std.proofs.lemmas.Nat.{div-mul-add, mod-mul-add, mod_below, div-add-m
 use Rattle.std.proofs.lemmas.Nat.Bits.{bit_at-lt, same_from_bits_below}
 use Rattle.std.proofs.Math.Nat.{mod-eq_of_lt}
 use Rattle.std.proofs.lemmas.List.{ext_get_or, get_or_past, get_or-set_same, get_or-set_other, length-set}
+use Rattle.plank_base.proofs.Digits.{digits_from_tests}
 use Rattle.plank_bits.specs.Words.{is_set, has, IsWithin, count_below, IsLeastFrom}
-use Rattle.plank_bits.proofs.WordLemmas.{is_set-zero, is_set-above}
+use Rattle.plank_bits.proofs.WordLemmas.{or_false, is_set-zero, is_set-above}
 
 -- ---- members
 
@@ -27,10 +28,6 @@ has-past ws i h =
 pub member_below : (ws : List ℕ) (i : ℕ) → has ws i ≡ true → i < 64 * length ws
 member_below ws i e =
     elim (cases_lt i (64 * length ws)) [ inl h ↦ h | inr h ↦ absurd (false≢true (sym (has-past ws i h) ∙ e)) ]
-
-or_false : (x y : Bool) → y ≡ false → (x || y) ≡ x
-or_false true y e = refl
-or_false false y e = e
 
 or_same : (x y z : Bool) → y ≡ z → (x || y) ≡ (x || z)
 or_same x y z e = ap (λ v. x || v) e
@@ -207,15 +204,6 @@ none_at_word ws i q before none k h l =
     ]
 
 -- ---- one set, one list of words
-
-digits_from_tests : (x y : ℕ) → x < 2 → y < 2 → (x == 1) ≡ (y == 1) → x ≡ y
-digits_from_tests zero zero p q e = refl
-digits_from_tests zero (suc zero) p q e = absurd (false≢true e)
-digits_from_tests (suc zero) zero p q e = absurd (false≢true (sym e))
-digits_from_tests (suc zero) (suc zero) p q e = refl
-digits_from_tests (suc (suc x)) y p q e = absurd (omega arith)
-digits_from_tests zero (suc (suc y)) p q e = absurd (omega arith)
-digits_from_tests (suc zero) (suc (suc y)) p q e = absurd (omega arith)
 
 -- as many words of 64 bits with the same members are the same words
 pub same_words : (xs ys : List ℕ) → length xs ≡ length ys → ((q : ℕ) → get_or xs q 0 < 2 ^ 64) → ((q : ℕ) → get_or ys q 0 < 2 ^ 64) → ((k : ℕ) → has xs k ≡ has ys k) → xs ≡ ys

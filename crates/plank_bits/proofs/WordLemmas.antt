@@ -1,21 +1,13 @@
 -- One word of 64 bits as a set of numbers: which bits of a union, a meet, a difference and a masked word are set.
-use Rattle.std.proofs.Common.{◌≡◌, ◌↔◌, ℕ, zero, suc, ◌-◌, ◌*◌, ◌%◌, ◌^◌, ◌<◌, ◌≤◌, ◌==◌, ◌&&◌, ◌||◌, not, min, max, Bool, true, false, IsTrue, bit_and, bit_or, nat_le, refl, sym, ◌∙◌, ap, subst, inl, inr, arith, w64}
+use Rattle.std.proofs.Common.{◌≡◌, ◌↔◌, ℕ, zero, suc, ◌-◌, ◌*◌, ◌%◌, ◌^◌, ◌<◌, ◌≤◌, ◌==◌, ◌&&◌, ◌||◌, not, min, Bool, true, false, IsTrue, bit_and, bit_or, nat_le, refl, sym, ◌∙◌, ap, subst, inl, inr, arith, w64}
 use Rattle.std.specs.Int.{bit_at, bit_not, trailing_zeros}
-use Rattle.std.proofs.lemmas.Bool.{cases_eq, cases_lt, eq-eqb, ne_eqb, eqb-true, le-leb, lt-leb, leb-true, false≢true, and_parts}
+use Rattle.std.proofs.lemmas.Bool.{cases_eq, cases_lt, eq-eqb, ne_eqb, eqb-true, le-leb, lt-leb, leb-true, false≢true, and_parts, and_left, or_right}
 use Rattle.std.proofs.lemmas.Nat.{one_shl, pow_pos, and_le_l}
-use Rattle.std.proofs.lemmas.Nat.Bits.{bit_at_or, bit_at_and, bit_at_not, bit_at-lt, bit_at-zero, bit_at_above, bit_at_set_same, bit_at_set_other, bit_at_mask_below, bit_at_mask_inside, bit_at-trailing_zeros, ones_shl, and_pow, same_from_bits}
+use Rattle.std.proofs.lemmas.Nat.Bits.{bit_at_and, bit_at_not, bit_at-lt, bit_at-zero, bit_at_above, bit_at_set_same, bit_at_set_other, bit_at_mask_below, bit_at_mask_inside, bit_at-trailing_zeros, ones_shl, and_pow, same_from_bits}
+use Rattle.plank_base.proofs.Digits.{is_one-or, digit_times}
 use Rattle.plank_bits.specs.Words.{is_set, IsWithin, IsLeastFrom}
 
 -- ---- digits that are 0 or 1
-
-max_is_one : (x y : ℕ) → x < 2 → y < 2 → (max x y == 1) ≡ ((x == 1) || (y == 1))
-max_is_one zero zero p q = refl
-max_is_one zero (suc zero) p q = refl
-max_is_one (suc zero) zero p q = refl
-max_is_one (suc zero) (suc zero) p q = refl
-max_is_one (suc (suc x)) y p q = absurd (omega arith)
-max_is_one zero (suc (suc y)) p q = absurd (omega arith)
-max_is_one (suc zero) (suc (suc y)) p q = absurd (omega arith)
 
 min_is_one : (x y : ℕ) → x < 2 → y < 2 → (min x y == 1) ≡ ((x == 1) && (y == 1))
 min_is_one zero zero p q = refl
@@ -36,6 +28,10 @@ zero_digit zero p e = refl
 zero_digit (suc zero) p e = absurd (false≢true (sym e))
 zero_digit (suc (suc x)) p e = absurd (omega arith)
 
+pub or_false : (x y : Bool) → y ≡ false → (x || y) ≡ x
+or_false true y e = refl
+or_false false y e = e
+
 -- ---- the bits of a word
 
 pub is_set-one : (w i : ℕ) → bit_at w i ≡ 1 → is_set w i ≡ true
@@ -51,8 +47,7 @@ pub is_set-above : (w i : ℕ) → w < 2 ^ 64 → 64 ≤ i → is_set w i ≡ fa
 is_set-above w i h k = is_set-none w i (bit_at_above w 64 i h k)
 
 pub is_set-or : (a b i : ℕ) → is_set (bit_or a b) i ≡ (is_set a i || is_set b i)
-is_set-or a b i =
-    ap (λ x. x == 1) (bit_at_or a b i) ∙ max_is_one (bit_at a i) (bit_at b i) (bit_at-lt a i) (bit_at-lt b i)
+is_set-or a b i = is_one-or a b i
 
 pub is_set-and : (a b i : ℕ) → is_set (bit_and a b) i ≡ (is_set a i && is_set b i)
 is_set-and a b i =
@@ -60,9 +55,6 @@ is_set-and a b i =
 
 pub is_set-not : (b i : ℕ) → b < 2 ^ 64 → i < 64 → is_set (bit_not w64 b) i ≡ not (is_set b i)
 is_set-not b i h k = ap (λ x. x == 1) (bit_at_not w64 b i h k) ∙ not_is_one (bit_at b i) (bit_at-lt b i)
-
-and_with_false : (x y : Bool) → x ≡ false → (x && y) ≡ false
-and_with_false x y e = ap (λ v. v && y) e
 
 -- `a & !b`
 pub is_set-without : (a b i : ℕ) → a < 2 ^ 64 → b < 2 ^ 64 → is_set (bit_and a (bit_not w64 b)) i ≡ (is_set a i && not (is_set b i))
@@ -72,7 +64,7 @@ is_set-without a b i p q =
       | inl h ↦ ap (λ v. is_set a i && v) (is_set-not b i q h)
       | inr h ↦
           let none : is_set a i ≡ false = is_set-above a i p h in
-          and_with_false (is_set a i) (is_set (bit_not w64 b) i) none ∙ sym (and_with_false (is_set a i) (not (is_set b i)) none)
+          and_left (is_set a i) (is_set (bit_not w64 b) i) none ∙ sym (and_left (is_set a i) (not (is_set b i)) none)
     ]
 
 -- `w & (1 << k) != 0`
@@ -81,11 +73,6 @@ is_set-test w k h =
     ap (λ m. not (bit_and w m == 0)) (one_shl k 64 h)
     ∙ ap (λ v. not (v == 0)) (and_pow w k)
     ∙ digit_times (bit_at w k) (2 ^ k) (bit_at-lt w k) (pow_pos k)
-  where
-    digit_times : (x p : ℕ) → x < 2 → 0 < p → not (x * p == 0) ≡ (x == 1)
-    digit_times zero p h k = ap not (eq-eqb (0 * p) 0 (omega arith))
-    digit_times (suc zero) p h k = ap not (ne_eqb (1 * p) 0 (λ e. omega arith))
-    digit_times (suc (suc x)) p h k = absurd (omega arith)
 
 -- `w | 1 << k`
 pub is_set-with : (w k i : ℕ) → k < 64 → is_set (bit_or w (1 * 2 ^ k % 2 ^ 64)) i ≡ (is_set w i || (i == k))
@@ -94,19 +81,11 @@ is_set-with w k i h =
       | inl e ↦
           subst (λ v. is_set (bit_or w (1 * 2 ^ k % 2 ^ 64)) v ≡ (is_set w v || (v == k))) (sym e)
           (is_set-one (bit_or w (1 * 2 ^ k % 2 ^ 64)) k (bit_at_set_same w64 w k h)
-          ∙ sym (or_with_true (is_set w k) (k == k) (eq-eqb k k refl)))
+          ∙ sym (or_right (is_set w k) (k == k) (eq-eqb k k refl)))
       | inr d ↦
           ap (λ x. x == 1) (bit_at_set_other w64 w k h i d)
-          ∙ sym (or_with_false (is_set w i) (i == k) (ne_eqb i k d))
+          ∙ sym (or_false (is_set w i) (i == k) (ne_eqb i k d))
     ]
-  where
-    or_with_true : (x y : Bool) → y ≡ true → (x || y) ≡ true
-    or_with_true true y e = refl
-    or_with_true false y e = e
-
-    or_with_false : (x y : Bool) → y ≡ false → (x || y) ≡ x
-    or_with_false true y e = refl
-    or_with_false false y e = e
 
 -- a word with no bit set is 0
 pub zero_word : (w : ℕ) → ((i : ℕ) → is_set w i ≡ false) → w ≡ 0
@@ -147,7 +126,7 @@ is_set-from w k i h l =
             ap (λ v. is_set w i && v) (is_set-one (2 ^ 64 - 2 ^ k) i (bit_at_mask_inside k 64 i above within) ∙ sym (le-leb k i above))
         | inr past ↦
             let none : is_set w i ≡ false = is_set-above w i h past in
-            and_with_false (is_set w i) (is_set (2 ^ 64 - 2 ^ k) i) none ∙ sym (and_with_false (is_set w i) (nat_le k i) none)
+            and_left (is_set w i) (is_set (2 ^ 64 - 2 ^ k) i) none ∙ sym (and_left (is_set w i) (nat_le k i) none)
       ]
     ]
 

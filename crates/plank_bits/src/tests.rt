@@ -25,21 +25,21 @@ fn ends_are_members<const W: usize>(rt: &impl Abort)
 #[test]
 fn the_last_number_of_a_word_is_a_member(rt: HostRuntime) {
     ends_are_members::<1>(&rt);
-    ends_are_members::<8>(&rt);
+    ends_are_members::<16>(&rt);
     ends_are_members::<64>(&rt);
 }
 
 #[test]
 fn sets_combine_number_by_number(rt: HostRuntime) {
-    let a = Bits::<8>::empty().with(1).with(63).with(64).with(511);
-    let b = Bits::<8>::empty().with(63).with(64).with(100);
+    let a = Bits::<16>::empty().with(1).with(63).with(64).with(1023);
+    let b = Bits::<16>::empty().with(63).with(64).with(100);
     for (i, either, both, left) in [
         (0, false, false, false),
         (1, true, false, true),
         (63, true, true, false),
         (64, true, true, false),
         (100, true, false, false),
-        (511, true, false, true),
+        (1023, true, false, true),
     ] {
         assert_eq!(rt; a.union(&b).has(i), either, "union at {i}");
         assert_eq!(rt; a.meet(&b).has(i), both, "meet at {i}");

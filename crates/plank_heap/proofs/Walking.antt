@@ -1,12 +1,12 @@
 -- The walk of a key counted by moves, that it stays in a closed heap, and what tells where it ends.
-use Rattle.std.proofs.Common.{◌≡◌, ◌↔◌, ℕ, zero, suc, ◌<◌, ℤ, length, Option, Some, None, refl, sym, ◌∙◌, ap, subst, inl, inr}
+use Rattle.std.proofs.Common.{◌≡◌, ◌↔◌, ◌≢◌, ℕ, zero, suc, ◌+◌, ◌-◌, ◌<◌, ◌||◌, ℤ, length, Option, Some, None, refl, sym, ◌∙◌, ap, subst, inl, inr, arith}
 use Rattle.std.specs.Prelude.{option_and_then, slice_get, IsTrue, true, false}
 use Rattle.std.specs.Option.{option_map_or}
-use Rattle.std.proofs.lemmas.Bool.{false≢true}
+use Rattle.std.proofs.lemmas.Bool.{false≢true, ne_eqb}
 use Rattle.std.proofs.lemmas.Option.{none-some, same_Some, slice_get_past}
-use Rattle.plank_base.specs.Paths.{EndsAt, NeverEnds, IsUndefinedFrom, StaysBelow, after}
+use Rattle.plank_base.specs.Paths.{EndsAt, NeverEnds, IsUndefinedFrom, StaysBelow, after, meets_within}
 use Rattle.plank_base.proofs.Paths.{one_end, successor_cases}
-use Rattle.plank_base.proofs.PathCounts.{after-more, end_decides, endless_decides}
+use Rattle.plank_base.proofs.PathCounts.{after-more, meets-here, end_decides, endless_decides}
 use Rattle.plank_base.specs.declared.keys.NodeId.{NodeId}
 use Rattle.plank_prog.specs.declared.headers.Header.{Header}
 use Rattle.plank_prog.specs.Views.{admits}
@@ -32,6 +32,27 @@ after-one_more f (suc k) a b there =
       | inr step ↦
           after-more f (suc k) step.1 ∙ after-one_more f k step.0 b (sym (after-more f k step.1) ∙ there)
     ]
+
+-- ---- whether a point is met, move by move
+
+module _ (f : ℕ → Option ℕ) (n i : ℕ) (within : i < n) where
+  one_less : n - i ≡ suc (n - (i + 1))
+  one_less = omega arith
+
+  pub met_on : (a b m : ℕ) → a ≢ b → f a ≡ Some m → meets_within f (n - i) a b ≡ meets_within f (n - (i + 1)) m b
+  met_on a b m apart step =
+      ap (λ k. meets_within f k a b) one_less
+      ∙ ap (λ t. t || option_map_or (λ m. meets_within f (n - (i + 1)) m b) (f a) false) (ne_eqb a b apart)
+      ∙ ap (λ o. option_map_or (λ m. meets_within f (n - (i + 1)) m b) o false) step
+
+  pub met_never : (a b : ℕ) → a ≢ b → f a ≡ None → meets_within f (n - i) a b ≡ false
+  met_never a b apart step =
+      ap (λ k. meets_within f k a b) one_less
+      ∙ ap (λ t. t || option_map_or (λ m. meets_within f (n - (i + 1)) m b) (f a) false) (ne_eqb a b apart)
+      ∙ ap (λ o. option_map_or (λ m. meets_within f (n - (i + 1)) m b) o false) step
+
+pub met_here : (f : ℕ → Option ℕ) (k a b : ℕ) → a ≡ b → meets_within f k a b ≡ true
+met_here f k a b same = subst (λ c. meets_within f k a c ≡ true) same (meets-here f k a)
 
 -- ---- the walk stays in its heap
 

@@ -1,4 +1,5 @@
 ghost use Rattle.std.specs.Prelude.{◌≡◌, ◌↔◌, ◌<◌, ℕ, ℤ, Bool, true, Some, None, IsTrue, slice_get};
+ghost use Rattle.plank_base.specs.declared.limits.TheConstants.{FLAGS_LIMIT};
 ghost use Rattle.plank_prog.specs.declared.conditions.Condition.{Condition};
 ghost use Rattle.plank_prog.specs.declared.headers.Header.{Header};
 ghost use Rattle.plank_prog.specs.Conditions.{value};
@@ -37,8 +38,8 @@ pub fn start_laws()
 /// Laws of flags: a written flag has the value that was written, and the others keep theirs. It does
 /// nothing.
 pub fn flag_laws()
-    ensures written { (flags f : ℕ) (to : Bool) → f < 8 →
+    ensures written { (flags f : ℕ) (to : Bool) → f < FLAGS_LIMIT →
         is_bit_set (with_bit flags f to) f ≡ to }
-    ensures others { (flags f g : ℕ) (to : Bool) → f < 8 → g < 8 → (g ≡ f → ⊥) →
+    ensures others { (flags f g : ℕ) (to : Bool) → f < FLAGS_LIMIT → g < FLAGS_LIMIT → (g ≡ f → ⊥) →
         is_bit_set (with_bit flags f to) g ≡ is_bit_set flags g }
 {}

@@ -10,6 +10,3 @@ pub use heaps::Heap;
 pub use laws::{flag_laws, start_laws, walk_laws};
 pub use nodes::Node;
 pub use walks::WalkEnd;
-
-#[cfg(test)]
-mod tests;

@@ -1,4 +1,5 @@
 ghost use Rattle.std.specs.Prelude.{◌≡◌, ◌<◌, ◌^◌};
+ghost use Rattle.plank_base.specs.declared.limits.TheConstants.{FLAGS_LIMIT};
 
 use plank_base::{Key, NodeId, ThreadId};
 use plank_prog::{POINTER_FIELDS, has_flag};
@@ -50,7 +51,7 @@ impl Node {
 
     /// Sets or clears the flag of this number.
     pub fn set_flag(&mut self, flag: u8, to: bool)
-        requires { flag < 8 }
+        requires { flag < FLAGS_LIMIT }
         ensures { self.new ≡ with_flag self.old flag to }
     {
         if to {

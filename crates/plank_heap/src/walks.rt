@@ -3,7 +3,7 @@ ghost use Rattle.std.specs.Option.{option_map};
 ghost use Rattle.plank_prog.specs.declared.views.TheConstants.{POINTER_FIELDS};
 ghost use Rattle.plank_prog.specs.Views.{admits};
 ghost use Rattle.plank_heap.specs.Heaps.{IsClosed};
-ghost use Rattle.plank_heap.specs.Walks.{first_admitted, next_from, next, WalkEndsAt, WalkNeverEnds, contains, Contains};
+ghost use Rattle.plank_heap.specs.Walks.{first_admitted, next_from, next, WalkVisits, WalkEndsAt, WalkNeverEnds, walk_visits, contains, Contains};
 
 use crate::heaps::Heap;
 use crate::nodes::Node;
@@ -72,6 +72,25 @@ impl Heap {
             }
         }
         WalkEnd::Cycles
+    }
+
+    /// Whether the walk of an ordinary key visits a node. It takes no memory, as `walk` does.
+    pub fn visits(&self, program: &Program, j: i64, x: NodeId) -> bool
+        requires { IsClosed self.now }
+        ensures exact { IsTrue result ↔ WalkVisits program.now.header self.now j x.0 }
+        ensures test { result ≡ walk_visits program.now.header self.now j x.0 }
+    {
+        let mut at = self.root;
+        for _move in 0..self.nodes.len() {
+            if at.0 == x.0 {
+                return true;
+            }
+            match self.next(program, j, at) {
+                Some(to) => at = to,
+                None => return false,
+            }
+        }
+        at.0 == x.0
     }
 
     /// Whether the heap holds an ordinary key: whether the key's walk ends at a node that the `holds`

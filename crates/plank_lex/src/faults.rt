@@ -5,7 +5,7 @@ use thiserror::Error;
 #[derive(Clone, Copy, Debug, PartialEq, Eq, Error)]
 pub enum LexFault {
     /// The byte at this place begins no token, and neither does an earlier one.
-    #[error("a byte begins no token")]
+    #[error("the byte at line {line}, column {column} begins no token", line = .0.line, column = .0.column)]
     BadByte(Place),
     /// Memory was refused; of the text nothing is said.
     #[error("out of memory")]

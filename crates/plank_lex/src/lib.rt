@@ -6,8 +6,6 @@ mod laws;
 mod lexemes;
 mod lexer;
 mod symbols;
-#[cfg(test)]
-mod tests;
 mod tokens;
 mod words;
 

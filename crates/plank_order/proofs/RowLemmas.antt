@@ -6,6 +6,7 @@ use Rattle.std.proofs.lemmas.Nat.{one_shl, pow_pos}
 use Rattle.std.proofs.lemmas.Nat.Bits.{bit_at_or, bit_at-lt, bit_at-zero, bit_at-pow_same, bit_at-pow_other, and_pow, same_from_bits}
 use Rattle.std.proofs.lemmas.List.{get_or_past, get_or-set_same, get_or-set_other, length-set, get_or-replicate, length-replicate}
 use Rattle.std.proofs.Math.ListN.{replicate}
+use Rattle.plank_base.proofs.Digits.{is_one-or, digit_times, digits_from_tests, same_tests, more_digits}
 use Rattle.plank_order.specs.Rows.{is_set, relates}
 
 -- ---- one row
@@ -13,23 +14,8 @@ use Rattle.plank_order.specs.Rows.{is_set, relates}
 pub is_set-zero : (b : ℕ) → is_set 0 b ≡ false
 is_set-zero b = ap (λ x. x == 1) (bit_at-zero b)
 
-max_is_one : (x y : ℕ) → x < 2 → y < 2 → (max x y == 1) ≡ ((x == 1) || (y == 1))
-max_is_one zero zero p q = refl
-max_is_one zero (suc zero) p q = refl
-max_is_one (suc zero) zero p q = refl
-max_is_one (suc zero) (suc zero) p q = refl
-max_is_one (suc (suc x)) y p q = absurd (omega arith)
-max_is_one zero (suc (suc y)) p q = absurd (omega arith)
-max_is_one (suc zero) (suc (suc y)) p q = absurd (omega arith)
-
 pub is_set-or : (row more b : ℕ) → is_set (bit_or row more) b ≡ (is_set row b || is_set more b)
-is_set-or row more b =
-    ap (λ x. x == 1) (bit_at_or row more b) ∙ max_is_one (bit_at row b) (bit_at more b) (bit_at-lt row b) (bit_at-lt more b)
-
-digit_times : (x p : ℕ) → x < 2 → 0 < p → not (x * p == 0) ≡ (x == 1)
-digit_times zero p h k = ap not (eq-eqb (0 * p) 0 (omega arith))
-digit_times (suc zero) p h k = ap not (ne_eqb (1 * p) 0 (λ e. omega arith))
-digit_times (suc (suc x)) p h k = absurd (omega arith)
+is_set-or = is_one-or
 
 -- `row & (1 << b) != 0`
 pub is_set-test : (row b : ℕ) → b < 32 → not (bit_and row (1 * 2 ^ b % 2 ^ 32) == 0) ≡ is_set row b
@@ -61,20 +47,6 @@ pub or_after : (p r q : Bool) → p ≡ r → (p || q) ≡ (r || q)
 or_after p r q e = ap (λ v. v || q) e
 
 -- two rows with the same numbers are one number
-digits_from_tests : (x y : ℕ) → x < 2 → y < 2 → (x == 1) ≡ (y == 1) → x ≡ y
-digits_from_tests zero zero p q e = refl
-digits_from_tests zero (suc zero) p q e = absurd (false≢true e)
-digits_from_tests (suc zero) zero p q e = absurd (false≢true (sym e))
-digits_from_tests (suc zero) (suc zero) p q e = refl
-digits_from_tests (suc (suc x)) y p q e = absurd (omega arith)
-digits_from_tests zero (suc (suc y)) p q e = absurd (omega arith)
-digits_from_tests (suc zero) (suc (suc y)) p q e = absurd (omega arith)
-
-same_tests : (x y : Bool) → (x ≡ true → y ≡ true) → (y ≡ true → x ≡ true) → x ≡ y
-same_tests true y f g = sym (f refl)
-same_tests false true f g = g refl
-same_tests false false f g = refl
-
 pub same_row : (row other : ℕ) → ((b : ℕ) → is_set row b ≡ true → is_set other b ≡ true) → ((b : ℕ) → is_set other b ≡ true → is_set row b ≡ true) → row ≡ other
 same_row row other f g =
     same_from_bits row other (λ b. digits_from_tests (bit_at row b) (bit_at other b) (bit_at-lt row b) (bit_at-lt other b) (same_tests (is_set row b) (is_set other b) (f b) (g b)))
@@ -169,12 +141,6 @@ count_below p (suc n) = count_below p n + cond (p n) 1 0
 digit_le : (b : Bool) → cond b 1 0 ≤ 1
 digit_le true = omega arith
 digit_le false = omega arith
-
-more_digits : (x y : Bool) → (x ≡ true → y ≡ true) → cond x 1 0 ≤ cond y 1 0
-more_digits false true h = omega arith
-more_digits false false h = omega arith
-more_digits true true h = omega arith
-more_digits true false h = absurd (false≢true (h refl))
 
 fewer_digits : (x y : Bool) → x ≡ false → y ≡ true → cond x 1 0 < cond y 1 0
 fewer_digits false true e f = omega arith

@@ -29,7 +29,7 @@ use Rattle.plank_ast.specs.declared.statements.Else.TheFolds.{map-Statement, fol
 use Rattle.plank_parse.specs.declared.pieces.Block.{Block}
 use Rattle.plank_parse.specs.Readers.{Reader, ◌<$>◌, pure, is_kind, is_name, is_other}
 use Rattle.plank_parse.specs.Conditions.{reference, truth, atom}
-use Rattle.plank_parse.specs.Statements.{assigned_node, assigned_by, assigned, assignment, negated_test, test_by, test, tests, with_line, test_line, selection, bind, written_by, written, write, block, braced_block, node_line, word_line, return_line, otherwise_over, atomic_over, if_over, while_over, loop_over, statement_by, statement_over, braced, body, statement}
+use Rattle.plank_parse.specs.Statements.{assigned_node, assigned_by, assigned, assignment, negated_test, test_by, plain_test, tests, with_line, test_line, selection, bind, written_by, written, write, block, braced_block, node_line, word_line, return_line, otherwise_over, atomic_over, if_over, while_over, loop_over, statement_by, statement_over, braced, body, statement}
 use Rattle.plank_parse.specs.Placing.{Places, ◌⊕◌, at, bare, name_places, reference_places, truth_places, assigned_places, with_places, test_places, test_line_places, tests_places, selection_places, bind_places, written_places, write_places, block_places, body_layer, else_layer, statement_layer, statement_places, body_places, else_places}
 use Rattle.plank_parse.proofs.Standing.{join, moved, Finds, Keeps, At, step, finish, word_at, symbol_at, bare_symbol, name_at, token, dispatch, take_one, pure_at, none, chosen, optional_at, many_at, behind_at, blocked_at, opening_bare}
 use Rattle.plank_parse.proofs.PlacedConditions.{reference_at, truth_at, atom_at, dotted_at}
@@ -121,8 +121,8 @@ test_arm : (k : TokenKind) (p : Place) (n : ℕ) (ts : List Token) → Finds (At
 test_arm (kind.Symbol symbols.Not) p n ts = negated_test_at.of (token (kind.Symbol symbols.Not) p n ∷ ts)
 test_arm k p n ts = atom_test.of (token k p n ∷ ts)
 
-test_at : Keeps test (At test_places)
-unfolding test
+test_at : Keeps plain_test (At test_places)
+unfolding plain_test
 test_at = dispatch test_by (At test_places) test_arm
 
 abbrev tests_of : Test → List Test → Tests

@@ -33,7 +33,7 @@ use Rattle.plank_ast.specs.Spelling.{Spelling, mark, keyword, name_tokens, refer
 use Rattle.plank_parse.specs.declared.pieces.Block.{Block}
 use Rattle.plank_parse.specs.Readers.{Reader, ◌>>=◌, ◌>>◌, ◌<$>◌, pure, name, is_name, is_kind, is_other, many, many_from, optional, expected, blocked}
 use Rattle.plank_parse.specs.Conditions.{reference, truth, atom}
-use Rattle.plank_parse.specs.Statements.{assigned_node, assigned_by, assigned, assignment, negated_test, test_by, test, tests, with_line, test_line, selection, bind, written_by, written, write, block, braced_block, node_line, word_line, return_line, otherwise_over, atomic_over, if_over, while_over, loop_over, statement_by, statement_over, braced, body}
+use Rattle.plank_parse.specs.Statements.{assigned_node, assigned_by, assigned, assignment, negated_test, test_by, plain_test, tests, with_line, test_line, selection, bind, written_by, written, write, block, braced_block, node_line, word_line, return_line, otherwise_over, atomic_over, if_over, while_over, loop_over, statement_by, statement_over, braced, body}
 use Rattle.plank_parse.proofs.Grammars.{symbol_class, word_class, class_of, reads, both, firsts, member, many as many_of, then_on, read_one, halted}
 use Rattle.plank_parse.proofs.TextGrammar.{rules, sign, perhaps, a_name, reference_g, atom_g, operand_g, node_operand_g, assigned_node_g, assigned_g, assignment_g, negated_test_g, test_g, inner_tests_g, tests_g, with_line_g, test_line_g, selection_g, bind_g, written_g, write_g, block_g, braced_block_g, node_line_g, word_line_g, return_line_g, body_g, otherwise_g, atomic_g, if_g, while_g, loop_g, statement_g}
 use Rattle.plank_parse.proofs.Follows.{Follow, Follows, Says, step, step_in, finish, symbol_law, symbol_test, word_law, word_test, name_law, name_test, take_one, halt, many_law, behind_law, optional_law, blocked_law, blocked_then_law, choice_law, pure_law, bracket_law, dispatch}
@@ -99,14 +99,14 @@ test_none : (l : ℕ) → reads rules l test_g [] ≡ halted []
 unfolding test_g negated_test_g atom_g operand_g node_operand_g reference_g
 test_none l = refl
 
-test_law : (l : ℕ) → Follows (reads rules l test_g) test (Says test_tokens)
-unfolding test
+test_law : (l : ℕ) → Follows (reads rules l test_g) plain_test (Says test_tokens)
+unfolding plain_test
 test_law l = dispatch _ test_by _ (test_none l) (test_arm l)
 
 pub tests_spelled : (first : Test) (others : List Test) → mark symbol.OpenParenthesis ++ (test_tokens first ++ (more_test_tokens others ++ mark symbol.CloseParenthesis)) ≡ tests_tokens (record { first = first; others = others })
 tests_spelled first others = ap (λ (ks : Spelling). kind.Symbol symbol.OpenParenthesis ∷ ks) (sym (append_assoc (test_tokens first) (more_test_tokens others) (mark symbol.CloseParenthesis)))
 
-more_tests_law : (l : ℕ) → Follows (reads rules l (many_of (both (sign symbol.And) test_g))) (many (is_kind (kind.Symbol symbol.And)) (expected (kind.Symbol symbol.And) >> test)) (Says more_test_tokens)
+more_tests_law : (l : ℕ) → Follows (reads rules l (many_of (both (sign symbol.And) test_g))) (many (is_kind (kind.Symbol symbol.And)) (expected (kind.Symbol symbol.And) >> plain_test)) (Says more_test_tokens)
 more_tests_law l = many_law _ _ (symbol_class symbol.And ∷ []) _ _ (symbol_test symbol.And) (behind_law _ _ (kind.Symbol symbol.And) _ _ (symbol_law symbol.And) (test_law l))
 
 tests_law : (l : ℕ) → Follows (reads rules l tests_g) (tests l) (Says tests_tokens)

@@ -65,15 +65,15 @@ abbrev pub test_by : TokenKind → Reader Test
 test_by (kind.Symbol symbols.Not) = negated_test
 test_by k = Test.Atom <$> atom
 
-unfoldable pub test : Reader Test
-test = by_kind test_by
+unfoldable pub plain_test : Reader Test
+plain_test = by_kind test_by
 
 -- the tests of an `if` or a `while`, where so many brackets may still be opened
 unfoldable pub tests : ℕ → Reader Tests
 tests levels = do
   opening levels symbols.OpenParenthesis
-  first ← test
-  others ← each_after (kind.Symbol symbols.And) test
+  first ← plain_test
+  others ← each_after (kind.Symbol symbols.And) plain_test
   symbol symbols.CloseParenthesis
   pure (record { first = first; others = others })
 
@@ -90,7 +90,7 @@ with_line = do
 unfoldable pub test_line : Reader TestLine
 test_line = do
   place ← word words.Test
-  test ← test
+  test ← plain_test
   symbol symbols.Semicolon
   pure (record { place = place; test = test })
 

@@ -27,9 +27,9 @@ fn negated_test<'a>(alloc: Global, tokens: &'a [Token]) -> Reading<'a, Test>
     Ok((Test::Not { place, node, field }, rest))
 }
 
-#[tactic(auto, unfolding(crate::specs::Statements::test))]
+#[tactic(auto, unfolding(crate::specs::Statements::plain_test))]
 fn test<'a>(alloc: Global, tokens: &'a [Token]) -> Reading<'a, Test>
-    ensures { Gives result (spec.test tokens.now) }
+    ensures { Gives result (spec.plain_test tokens.now) }
 {
     match peek(tokens)? {
         TokenKind::Symbol(Symbol::Not) => negated_test(alloc, tokens),
@@ -43,7 +43,7 @@ fn test<'a>(alloc: Global, tokens: &'a [Token]) -> Reading<'a, Test>
 impl Part for Test {
     ghost use Rattle.plank_parse.specs.Statements as spec;
 
-    ghost reader = { spec.test };
+    ghost reader = { spec.plain_test };
 
     fn read<'a>(alloc: Global, tokens: &'a [Token]) -> Reading<'a, Test> {
         test(alloc, tokens)

@@ -5,10 +5,10 @@ use thiserror::Error;
 #[derive(Clone, Copy, Debug, PartialEq, Eq, Error)]
 pub enum ParseFault {
     /// With the token at this place the tokens so far begin no text.
-    #[error("a token does not go on with the text")]
+    #[error("no text goes on with the token at line {line}, column {column}", line = .0.line, column = .0.column)]
     Unexpected(Place),
     /// The bracket at this place is one more than may be open at once.
-    #[error("too many brackets are open")]
+    #[error("the bracket at line {line}, column {column} is one too many to be open", line = .0.line, column = .0.column)]
     TooDeep(Place),
     /// Memory was refused; of the tokens nothing is said.
     #[error("out of memory")]

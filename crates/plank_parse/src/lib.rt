@@ -14,8 +14,6 @@ mod pieces;
 mod reader;
 mod statements;
 mod stops;
-#[cfg(test)]
-mod tests;
 mod texts;
 
 pub use faults::ParseFault;

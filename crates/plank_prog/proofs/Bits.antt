@@ -1,20 +1,13 @@
 -- One bit of a number, as a mask tests it.
-use Rattle.std.proofs.Common.{◌≡◌, ◌≢◌, ℕ, zero, suc, ◌*◌, ◌<◌, ◌≤◌, ◌^◌, ◌%◌, false, not, nat_eq, nat_lt, nat_le, sym, ◌∙◌, ap, arith}
+use Rattle.std.proofs.Common.{◌≡◌, ℕ, ◌*◌, ◌<◌, ◌≤◌, ◌^◌, ◌%◌, false, not, nat_eq, nat_lt, nat_le, sym, ◌∙◌, ap, arith}
 use Rattle.std.specs.Int.{bit_at}
 use Rattle.std.specs.Prelude.{bit_and}
-use Rattle.std.proofs.Math.Nat.{zero-mul, one-mul}
-use Rattle.std.proofs.lemmas.Bool.{ne_eqb, le-leb, lt-ltb}
+use Rattle.std.proofs.lemmas.Bool.{le-leb, lt-ltb}
 use Rattle.std.proofs.Math.Pow.{pow_mono}
 use Rattle.std.proofs.lemmas.Nat.{pow_below, pow_pos}
 use Rattle.std.proofs.lemmas.Nat.Bits.{and_pow, bit_at-lt, bit_at_above}
+use Rattle.plank_base.proofs.Digits.{digit_times}
 use Rattle.plank_prog.specs.Views.{is_bit_set}
-
--- a bit times its place's value is not zero just where the bit is one
-bit_times : (b p : ℕ) → b < 2 → 0 < p → not (nat_eq (b * p) 0) ≡ nat_eq b 1
-bit_times zero p small positive = ap (λ m. not (nat_eq m 0)) (zero-mul p)
-bit_times (suc zero) p small positive =
-    let apart : p ≢ 0 = omega arith in ap (λ m. not (nat_eq m 0)) (one-mul p) ∙ ap not (ne_eqb p 0 apart)
-bit_times (suc (suc b)) p small positive = absurd (omega arith)
 
 -- the mask of a byte's bit
 pub mask : (i : ℕ) → i < 8 → 1 * 2 ^ i % 256 ≡ 2 ^ i
@@ -23,7 +16,7 @@ mask i below = let small : 2 ^ i < 2 ^ 8 = pow_below i 8 below in omega arith
 pub mask_tests_bit : (n i : ℕ) → i < 8 → not (nat_eq (bit_and n (1 * 2 ^ i % 256)) 0) ≡ is_bit_set n i
 mask_tests_bit n i below =
     ap (λ m. not (nat_eq (bit_and n m) 0)) (mask i below) ∙ ap (λ m. not (nat_eq m 0)) (and_pow n i)
-    ∙ bit_times (bit_at n i) (2 ^ i) (bit_at-lt n i) (pow_pos i)
+    ∙ digit_times (bit_at n i) (2 ^ i) (bit_at-lt n i) (pow_pos i)
 
 pub no_bit_above : (n i : ℕ) → n < 2 ^ 8 → 8 ≤ i → is_bit_set n i ≡ false
 no_bit_above n i small past = ap (λ b. nat_eq b 1) (bit_at_above n 8 i small past)

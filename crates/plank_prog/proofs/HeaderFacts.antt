@@ -1,9 +1,9 @@
 -- What a lawful header gives: its root, its start nodes and its limits, one fact each.
-use Rattle.std.proofs.Common.{◌≡◌, ℕ, zero, suc, ◌<◌, ◌≤◌, ◌^◌, ◌&&◌, Bool, true, false, not, List, [], ◌∷◌, length, Some, refl, subst}
+use Rattle.std.proofs.Common.{◌≡◌, ℕ, zero, suc, ◌<◌, ◌≤◌, ◌^◌, ◌&&◌, Bool, true, false, not, List, [], ◌∷◌, length, Some, subst}
 use Rattle.std.specs.Prelude.{slice_get, nat_lt, nat_le, ◌==◌}
 use Rattle.std.specs.List.{list_all}
 use Rattle.std.specs.Cmp.{first_so, second_so}
-use Rattle.std.proofs.lemmas.Bool.{ltb-true, leb-true, false≢true}
+use Rattle.std.proofs.lemmas.Bool.{ltb-true, leb-true, not-true}
 use Rattle.std.proofs.lemmas.Option.{none-some, same_Some}
 use Rattle.plank_base.specs.Keys.{is_ordinary}
 use Rattle.plank_base.specs.declared.limits.TheConstants.{FLAGS_LIMIT, POINTERS_LIMIT, NODES_LIMIT}
@@ -17,10 +17,6 @@ pub list_all_at : {X : Type 0} (test : X → Bool) (xs : List X) (i : ℕ) (x : 
 list_all_at test [] i x all read = absurd (none-some x read)
 list_all_at test (y ∷ ys) zero x all read = subst (λ z. test z ≡ true) (same_Some y x read) (first_so (test y) (list_all test ys) all)
 list_all_at test (y ∷ ys) (suc i) x all read = list_all_at test ys i x (second_so (test y) (list_all test ys) all) read
-
-pub not-true : (b : Bool) → not b ≡ true → b ≡ false
-not-true true e = absurd (false≢true e)
-not-true false e = refl
 
 module _ (h : Header) (lawful : is_lawful_header h ≡ true) where
   before_conditions : (is_header_within_limits h && have_distinct_names h && have_lawful_nodes h) ≡ true

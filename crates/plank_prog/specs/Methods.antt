@@ -1,13 +1,24 @@
 -- What the methods of every program keep: their limits, their names, and that each step stays in its method.
-use Rattle.std.specs.Prelude.{ℕ, ◌+◌, ◌*◌, ◌-◌, Bool, true, false, not, ◌&&◌, ◌||◌, ◌==◌, nat_lt, nat_le, List, length, sum_by, count_by, is_some, if◌then◌else◌}
+use Rattle.std.specs.Prelude.{ℕ, ◌+◌, ◌*◌, ◌-◌, Bool, true, false, not, ◌&&◌, ◌||◌, ◌==◌, nat_lt, nat_le, List, length, sum_by, count_by, is_some, Option, Some, None, if◌then◌else◌}
 use Rattle.std.specs.List.{list_all}
-use Rattle.plank_base.specs.declared.limits.TheConstants.{METHODS_LIMIT, VARIABLES_LIMIT, LOCATIONS_LIMIT, SITES_LIMIT, EFFECT_FACTS_LIMIT}
+use Rattle.plank_base.specs.declared.operations.Op.{Op}
+use Rattle.plank_base.specs.declared.limits.TheConstants.{METHODS_LIMIT, VARIABLES_LIMIT, FROZEN_VARIABLES_LIMIT, LOCATIONS_LIMIT, SITES_LIMIT, EFFECT_FACTS_LIMIT}
 use Rattle.plank_prog.specs.declared.headers.Header.{Header}
 use Rattle.plank_prog.specs.declared.methods.Action.{Action}
 use Rattle.plank_prog.specs.declared.methods.Location.{Location}
 use Rattle.plank_prog.specs.declared.methods.Method.{Method}
+use Rattle.plank_prog.specs.declared.methods.MethodKind.{MethodKind}
 use Rattle.plank_prog.specs.Names.{all_pairs, names_differ}
 use Rattle.plank_prog.specs.Blocks.{value_fits, is_lawful_block, name_count}
+
+-- the operation of a kind of methods, where it has one
+abbrev pub operation : MethodKind → Option Op
+operation (MethodKind.Set op) = Some op
+operation MethodKind.Upkeep = None
+
+-- how many variables a method may have
+abbrev pub variables_limit : Header → ℕ
+variables_limit h = if is_some h.freeze then FROZEN_VARIABLES_LIMIT else VARIABLES_LIMIT
 
 -- an action of a method with so many variables and locations
 abbrev pub is_lawful_action : Header → ℕ → ℕ → Action → Bool
@@ -46,7 +57,7 @@ is_lawful_location h variables locations l =
 
 abbrev pub is_lawful_method : Header → Method → Bool
 is_lawful_method h m =
-    nat_le (length m.variables) VARIABLES_LIMIT && list_all (names_differ m.arg) m.variables
+    nat_le (length m.variables) (variables_limit h) && list_all (names_differ m.arg) m.variables
     && all_pairs names_differ m.variables && nat_lt 0 (length m.locations)
     && list_all (is_lawful_location h (length m.variables) (length m.locations)) m.locations
 

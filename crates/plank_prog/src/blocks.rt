@@ -1,5 +1,5 @@
 use crate::conditions::KeyRelation;
-use plank_base::Sequence;
+use sqlite_items::Items;
 
 /// A name for a node in a method.
 #[derive(Clone, Copy, Debug, PartialEq, Eq)]
@@ -124,11 +124,11 @@ pub enum Write {
 #[derive(Debug, Drop)]
 pub struct Block {
     /// Further names that facts about the block may speak of; they do nothing when it runs.
-    pub with: Sequence<Reference>,
-    pub tests: Sequence<Test>,
-    pub binds: Sequence<Bind>,
+    pub with: Items<Reference>,
+    pub tests: Items<Test>,
+    pub binds: Items<Bind>,
     /// All of one node.
-    pub writes: Sequence<Write>,
+    pub writes: Items<Write>,
     /// The location after the block where each test is true.
     pub yes: u32,
     /// The location after the block where a test is false.

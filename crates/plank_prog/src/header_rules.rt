@@ -14,7 +14,7 @@ use plank_base::{FLAGS_LIMIT, Label, NODES_LIMIT, POINTERS_LIMIT};
 fn has_only_flags(flags: u8, count: usize) -> bool
     ensures { result ≡ nat_lt flags (2 ^ count) }
 {
-    count >= 8 || flags < 1 << count
+    count >= u8::BITS as usize || flags < 1 << count
 }
 
 // Whether a pointer is null or leads to one of so many nodes.

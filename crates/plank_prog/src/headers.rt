@@ -1,5 +1,6 @@
 use crate::conditions::Condition;
-use plank_base::{Key, Label, Sequence};
+use plank_base::{Key, Label};
+use sqlite_items::Items;
 
 /// How the keys along a pointer field are ordered.
 #[derive(Clone, Copy, Debug, PartialEq, Eq)]
@@ -29,7 +30,7 @@ pub struct StartNode {
     /// Bit i for the i-th declared flag.
     pub flags: u8,
     /// For each declared pointer field the number of the start node that it leads to, or null.
-    pub pointers: Sequence<Option<u32>>,
+    pub pointers: Items<Option<u32>>,
 }
 
 /// A condition that every shared node is to meet, for every key.
@@ -42,17 +43,17 @@ pub struct Keep {
 /// What a structure declares before its methods.
 #[derive(Debug, Drop)]
 pub struct Header {
-    pub flags: Sequence<Label>,
-    pub pointers: Sequence<Pointer>,
+    pub flags: Items<Label>,
+    pub pointers: Items<Pointer>,
     /// Whether each node has a lock.
     pub has_lock: bool,
     /// The nodes of the start heap.
-    pub nodes: Sequence<StartNode>,
+    pub nodes: Items<StartNode>,
     /// The number of the start node at which each walk begins.
     pub root: u32,
     /// Whether a walk that ends at a node ends at its key.
     pub holds: Condition,
-    pub keeps: Sequence<Keep>,
+    pub keeps: Items<Keep>,
     /// Which nodes are frozen; none where it is not given.
     pub freeze: Option<Condition>,
 }

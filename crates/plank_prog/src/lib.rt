@@ -20,10 +20,7 @@ pub use blocks::{
 pub use conditions::{Condition, KeyRelation, KeyTerm};
 pub use headers::{Header, Keep, KeyOrder, Pointer, StartNode};
 pub use laws::condition_laws;
-pub use methods::{Action, Location, Method};
+pub use methods::{Action, Location, Method, MethodKind};
 pub use programs::Program;
 pub use scopes::Scope;
 pub use views::{NodeView, POINTER_FIELDS, has_flag};
-
-#[cfg(test)]
-mod tests;

@@ -2,13 +2,14 @@ ghost use Rattle.std.specs.Prelude.{◌≡◌, ◌≤◌, ◌+◌, ◌&&◌, nat
 ghost use Rattle.std.specs.List.{list_all};
 ghost use Rattle.plank_prog.specs.Names.{names_differ, all_pairs};
 ghost use Rattle.plank_base.specs.declared.limits.TheConstants.{FLAGS_LIMIT, POINTERS_LIMIT, VARIABLES_LIMIT};
-ghost use Rattle.plank_prog.specs.Methods.{is_lawful_action, is_site, effect_fact_count, has_few_facts, is_lawful_location, is_lawful_method, location_count, site_count, are_methods_within_limits, are_lawful_methods};
+ghost use Rattle.plank_prog.specs.Methods.{is_lawful_action, is_site, variables_limit, effect_fact_count, has_few_facts, is_lawful_location, is_lawful_method, location_count, site_count, are_methods_within_limits, are_lawful_methods};
 
 use crate::headers::Header;
 use crate::methods::{Action, Location, Method};
 use crate::names::{Apart, all_apart};
 use plank_base::{
-    EFFECT_FACTS_LIMIT, LOCATIONS_LIMIT, METHODS_LIMIT, SITES_LIMIT, VARIABLES_LIMIT,
+    EFFECT_FACTS_LIMIT, FROZEN_VARIABLES_LIMIT, LOCATIONS_LIMIT, METHODS_LIMIT, SITES_LIMIT,
+    VARIABLES_LIMIT,
 };
 
 impl Action {
@@ -55,6 +56,18 @@ impl Action {
 }
 
 impl Header {
+    /// How many variables a method may have: fewer where there is a condition of frozen nodes, since
+    /// then each pair of names may have a chain.
+    pub fn variables_limit(&self) -> u32
+        ensures { result ≡ variables_limit self.now }
+    {
+        if self.freeze.is_some() {
+            FROZEN_VARIABLES_LIMIT
+        } else {
+            VARIABLES_LIMIT
+        }
+    }
+
     /// How many facts an effect with so many names may claim.
     pub fn effect_fact_count(&self, names: u32) -> u32
         requires flags { length self.now.flags ≤ FLAGS_LIMIT }
@@ -132,7 +145,7 @@ impl Method {
         requires pointers { length header.now.pointers ≤ POINTERS_LIMIT }
         ensures { result ≡ is_lawful_method header.now self.now }
     {
-        self.variables.len() <= VARIABLES_LIMIT as usize
+        self.variables.len() <= header.variables_limit() as usize
             && self.has_distinct_variables()
             && self.locations.len() > 0
             && self.has_lawful_locations(header)

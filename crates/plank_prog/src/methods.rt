@@ -1,5 +1,9 @@
+ghost use Rattle.std.specs.Prelude.{◌≡◌};
+ghost use Rattle.plank_prog.specs.Methods.{operation};
+
 use crate::blocks::{Block, Value};
-use plank_base::{Label, Op, Place, Sequence};
+use plank_base::{Label, Op, Place};
+use sqlite_items::Items;
 
 /// What one step at a location does.
 #[derive(Debug, Drop)]
@@ -10,7 +14,7 @@ pub enum Action {
     Copy { to: u8, from: Value, next: u32 },
     /// Sets a variable to a fresh node, whose key is the argument.
     New { to: u8, next: u32 },
-    /// Ends the call with this answer.
+    /// Ends the call, with this answer where the method has one.
     Return(bool),
 }
 
@@ -22,14 +26,36 @@ pub struct Location {
     pub action: Action,
 }
 
-/// A method, with one ordinary key as its argument and a truth value as its answer.
+/// What a method is for.
+#[derive(Clone, Copy, Debug, PartialEq, Eq)]
+pub enum MethodKind {
+    /// An operation on the set, which answers.
+    Set(Op),
+    /// Upkeep of the structure: it answers nothing and leaves the set as it is. Both of its returns end the
+    /// call alike.
+    Upkeep,
+}
+
+impl MethodKind {
+    /// The operation on the set, where there is one.
+    pub fn operation(self) -> Option<Op>
+        ensures { result ≡ operation self }
+    {
+        match self {
+            MethodKind::Set(op) => Some(op),
+            MethodKind::Upkeep => None,
+        }
+    }
+}
+
+/// A method, with one ordinary key as its argument.
 #[derive(Debug, Drop)]
 pub struct Method {
     pub name: Label,
-    pub op: Op,
+    pub kind: MethodKind,
     /// The name of the argument.
     pub arg: Label,
-    pub variables: Sequence<Label>,
+    pub variables: Items<Label>,
     /// A call begins at the first.
-    pub locations: Sequence<Location>,
+    pub locations: Items<Location>,
 }

@@ -8,7 +8,8 @@ use crate::headers::{Header, Keep, Pointer};
 use crate::method_rules::are_lawful;
 use crate::methods::Method;
 use crate::views::NodeView;
-use plank_base::{Key, Label, Sequence};
+use plank_base::{Key, Label};
+use sqlite_items::Items;
 
 /// A judged structure, with numbers in the order of declaration in the place of names.
 ///
@@ -18,7 +19,7 @@ use plank_base::{Key, Label, Sequence};
 pub struct Program {
     pub name: Label,
     pub header: Header,
-    pub methods: Sequence<Method>,
+    pub methods: Items<Method>,
     pub ghost header_is_lawful: { is_lawful_header header ≡ true },
     pub ghost methods_are_lawful: { are_lawful_methods header methods ≡ true },
 }
@@ -27,7 +28,7 @@ impl Program {
     ghost use Rattle.plank_prog.specs.Views.{edge_admits, holds_at, is_frozen, meets_keep};
 
     /// The program of these parts, or none where they break what every program keeps.
-    pub fn new(name: Label, header: Header, methods: Sequence<Method>) -> Option<Program>
+    pub fn new(name: Label, header: Header, methods: Items<Method>) -> Option<Program>
         ensures lawful { IsSome result ↔
             ((is_lawful_header header ≡ true) × (are_lawful_methods header methods ≡ true)) }
         ensures parts { IfSome result (λ p. (p.name ≡ name) × (p.header ≡ header) × (p.methods ≡ methods)) }

@@ -1,10 +1,10 @@
 ghost use Rattle.std.specs.Prelude.{◌≡◌, false, unwrap_or, slice_get};
 ghost use Rattle.plank_prog.specs.Views.{is_bit_set};
 
-use plank_base::Key;
+use plank_base::{Key, POINTERS_LIMIT};
 
 /// How many pointer fields a node may have, as the length of an array.
-pub const POINTER_FIELDS: usize = 2;
+pub const POINTER_FIELDS: usize = POINTERS_LIMIT as usize;
 
 /// What a condition asks of a node: its key, its flags, and which of its pointers are null.
 #[derive(Clone, Copy, Debug, PartialEq, Eq)]
@@ -20,7 +20,7 @@ pub struct NodeView {
 pub fn has_flag(flags: u8, flag: u8) -> bool
     ensures { result ≡ is_bit_set flags flag }
 {
-    flag < 8 && flags & (1 << flag) != 0
+    u32::from(flag) < u8::BITS && flags & (1 << flag) != 0
 }
 
 // Whether the pointer field of this number is null; false where it is not there.

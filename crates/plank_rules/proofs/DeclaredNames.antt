@@ -7,7 +7,7 @@ use Rattle.std.specs.Option.{option_map_or}
 use Rattle.plank_rules.specs.Occurrences.{Occurrence, occurrence, labels_of}
 use Rattle.plank_rules.specs.Headers.{flag_occurrence, pointer_occurrence, start_occurrence}
 use Rattle.plank_rules.specs.MethodRules.{method_scope, line_occurrences}
-use Rattle.plank_rules.specs.BrokenRules.{header_of}
+use Rattle.plank_rules.specs.BrokenRules.{declared_by}
 use Rattle.plank_rules.specs.DeclaredNames.{SameNames, LooksUpWhatIsDeclared}
 use Rattle.plank_rules.proofs.DistinctNames.{among-distinct, labels-map}
 
@@ -21,7 +21,7 @@ same_of_line None = record { same = λ n. refl }
 same_of_line (Some line) = same_of_parts occurrence (variable_line line)
 
 pub looks_up_what_is_declared : (t : Text) → LooksUpWhatIsDeclared t
-unfolding header_of method_scope
+unfolding declared_by method_scope
 looks_up_what_is_declared t = record {
   flags = same_of_parts flag_occurrence t.flags;
   pointers = same_of_parts pointer_occurrence t.pointers;

@@ -1,8 +1,8 @@
 -- Sets of borrowed names, as the lists of names that contracts see.
-use Rattle.std.proofs.Common.{◌≡◌, ℕ, Bool, List, [], ◌∷◌, ◌++◌, map, refl, ap, Bor, if◌then◌else◌, true, false}
-use Rattle.std.specs.List.{list_any}
-use Rattle.std.proofs.Common.{◌∙◌}
-use Rattle.std.proofs.lemmas.List.{map-append}
+use Rattle.std.proofs.Common.{◌≡◌, ℕ, ◌+◌, Bool, not, cond, List, [], ◌∷◌, ◌++◌, length, map, Some, None, refl, ap, sym, ◌∙◌, Bor, if◌then◌else◌, true, false}
+use Rattle.std.specs.Prelude.{nat_lt, position}
+use Rattle.std.specs.List.{list_any, position_or_len}
+use Rattle.std.proofs.lemmas.List.{map-append, length-map}
 use Rattle.indexmap.specs.IndexSet.{insert_key}
 use Rattle.plank_rules.specs.Declarations.{same_name, is_among, with_name}
 
@@ -24,3 +24,13 @@ pub seen-insert : (keys : List (Bor (List ℕ))) (name : Bor (List ℕ)) → see
 seen-insert keys name =
     ap (λ here. seen (if here then keys else keys ++ name ∷ [])) (list_any-seen (same_name name.now) keys)
     ∙ seen-if (is_among (seen keys) name.now) keys name
+
+-- a place among what stands behind the borrows
+first-seen : (test : List ℕ → Bool) (keys : List (Bor (List ℕ))) → position_or_len (λ key. test key.now) keys ≡ position_or_len test (seen keys)
+first-seen test [] = refl
+first-seen test (k ∷ ks) = ap (λ at. cond (not (test k.now)) (1 + at) 0) (first-seen test ks)
+
+pub position-seen : (test : List ℕ → Bool) (keys : List (Bor (List ℕ))) → position (λ key. test key.now) keys ≡ position test (seen keys)
+position-seen test keys =
+    ap (λ at. cond (nat_lt at (length keys)) (Some at) None) (first-seen test keys)
+    ∙ ap (λ count. cond (nat_lt (position_or_len test (seen keys)) count) (Some (position_or_len test (seen keys))) None) (sym (length-map keys (λ key. key.now)))

@@ -8,7 +8,7 @@ use Rattle.plank_ast.specs.declared.conditions.AtomEnd.{AtomEnd}
 use Rattle.plank_ast.specs.declared.conditions.Atom.{Atom}
 use Rattle.plank_rules.specs.declared.broken.Broken.{Broken}
 use Rattle.plank_rules.specs.declared.scopes.Setting.{Setting}
-use Rattle.plank_rules.specs.declared.scopes.Header.{Header}
+use Rattle.plank_rules.specs.declared.names.Declared.{Declared}
 use Rattle.plank_rules.specs.declared.scopes.Scope.{Scope}
 use Rattle.plank_rules.specs.declared.meanings.NodeMeaning.{NodeMeaning}
 use Rattle.plank_rules.specs.declared.meanings.Meaning.{Meaning}
@@ -122,11 +122,11 @@ compared setting comparison first first_place second second_place =
     else []
 
 -- what an operand breaks by itself
-abbrev pub operand_rules : Header → Scope → Operand → List Broken
+abbrev pub operand_rules : Declared → Scope → Operand → List Broken
 operand_rules header scope operand =
     unknown_operand header scope operand ++ misplaced (operand_meaning header scope operand) (operand_place operand)
 
-abbrev pub comparison_rules : Header → Scope → Operand → Comparison → Operand → List Broken
+abbrev pub comparison_rules : Declared → Scope → Operand → Comparison → Operand → List Broken
 comparison_rules header scope first comparison second =
     operand_rules header scope first ++ operand_rules header scope second
     ++ compared scope.setting comparison (operand_meaning header scope first) (operand_place first)
@@ -134,7 +134,7 @@ comparison_rules header scope first comparison second =
 
 -- ---- an operand alone
 
-abbrev pub alone_rules : Header → Scope → Operand → List Broken
+abbrev pub alone_rules : Declared → Scope → Operand → List Broken
 alone_rules header scope operand =
     unknown_operand header scope operand ++ no_flag (operand_meaning header scope operand) (operand_place operand)
 
@@ -171,12 +171,12 @@ abbrev pub is_visit : Scope → Operand → NodeMeaning → Bool
 is_visit scope operand node = is_keep scope.setting && is_key_alone scope operand && is_node_name node
 
 -- `in` anywhere but as `j in x` in a keep
-abbrev pub no_visit : Header → Scope → Operand → Place → NodeMeaning → List Broken
+abbrev pub no_visit : Declared → Scope → Operand → Place → NodeMeaning → List Broken
 no_visit header scope operand place node =
     misplaced (operand_meaning header scope operand) (operand_place operand)
     ++ when (not (is_visit scope operand node)) (wrong_kind place)
 
-abbrev pub in_rules : Header → Scope → Operand → Place → Name → List Broken
+abbrev pub in_rules : Declared → Scope → Operand → Place → Name → List Broken
 in_rules header scope operand place node =
     unknown_operand header scope operand ++ unknown_name scope node
     ++ (if is_unknown (operand_meaning header scope operand) || is_unknown_name (name_meaning scope node.label) then []
@@ -184,11 +184,11 @@ in_rules header scope operand place node =
 
 -- ---- atoms
 
-abbrev pub atom_end_rules : Header → Scope → Operand → AtomEnd → List Broken
+abbrev pub atom_end_rules : Declared → Scope → Operand → AtomEnd → List Broken
 atom_end_rules header scope operand AtomEnd.Nothing = alone_rules header scope operand
 atom_end_rules header scope operand (AtomEnd.Compared comparison place second) =
     comparison_rules header scope operand comparison second
 atom_end_rules header scope operand (AtomEnd.In place node) = in_rules header scope operand place node
 
-abbrev pub atom_rules : Header → Scope → Atom → List Broken
+abbrev pub atom_rules : Declared → Scope → Atom → List Broken
 atom_rules header scope atom = atom_end_rules header scope atom.operand atom.end

@@ -15,7 +15,7 @@ use Rattle.plank_ast.specs.declared.header.NamedCondition.{NamedCondition}
 use Rattle.plank_ast.specs.declared.header.ConditionLine.{ConditionLine}
 use Rattle.plank_rules.specs.declared.broken.Broken.{Broken}
 use Rattle.plank_rules.specs.declared.scopes.Setting.{Setting}
-use Rattle.plank_rules.specs.declared.scopes.Header.{Header}
+use Rattle.plank_rules.specs.declared.names.Declared.{Declared}
 use Rattle.plank_rules.specs.declared.scopes.Scope.{Scope}
 use Rattle.plank_rules.specs.declared.meanings.FieldMeaning.{FieldMeaning}
 use Rattle.plank_rules.specs.Declarations.{is_among}
@@ -94,11 +94,11 @@ value_rules starts FieldMeaning.Pointer value = pointer_item_rules starts value
 value_rules starts FieldMeaning.Unknown value = any_item_rules starts value
 value_rules starts FieldMeaning.Key value = any_item_rules starts value
 
-abbrev pub item_rules : Header → List (List ℕ) → StartItem → List Broken
+abbrev pub item_rules : Declared → List (List ℕ) → StartItem → List Broken
 item_rules header starts item =
     unknown_field_name header item.field ++ value_rules starts (label_meaning header item.field.label) item.value
 
-abbrev pub start_rules : Header → List (List ℕ) → StartLine → List Broken
+abbrev pub start_rules : Declared → List (List ℕ) → StartLine → List Broken
 start_rules header starts line = flat_map (item_rules header starts) line.items ++ repeats (map item_occurrence line.items)
 
 -- ---- the lines of conditions
@@ -110,24 +110,24 @@ pointer_rules FieldMeaning.Flag place = wrong_kind place ∷ []
 pointer_rules FieldMeaning.Key place = wrong_kind place ∷ []
 pointer_rules FieldMeaning.Pointer place = []
 
-abbrev pub edge_rules : Header → Scope → NamedCondition → List Broken
+abbrev pub edge_rules : Declared → Scope → NamedCondition → List Broken
 edge_rules header scope line =
     pointer_rules (label_meaning header line.name.label) line.name.place ++ condition_rules header scope line.condition
 
-abbrev pub edges_rules : Header → List NamedCondition → List Broken
+abbrev pub edges_rules : Declared → List NamedCondition → List Broken
 edges_rules header edges = flat_map (edge_rules header (header_scope Setting.Edge)) edges ++ repeats (map named_occurrence edges)
 
-abbrev pub holds_rules : Header → ConditionLine → List Broken
+abbrev pub holds_rules : Declared → ConditionLine → List Broken
 holds_rules header line = condition_rules header (header_scope Setting.Holds) line.condition
 
-abbrev pub keep_rules : Header → Scope → NamedCondition → List Broken
+abbrev pub keep_rules : Declared → Scope → NamedCondition → List Broken
 keep_rules header scope line = condition_rules header scope line.condition
 
-abbrev pub keeps_rules : Header → List NamedCondition → List Broken
+abbrev pub keeps_rules : Declared → List NamedCondition → List Broken
 keeps_rules header keeps = flat_map (keep_rules header (header_scope Setting.Keep)) keeps ++ repeats (map named_occurrence keeps)
 
-abbrev pub freeze_rules : Header → ConditionLine → List Broken
+abbrev pub freeze_rules : Declared → ConditionLine → List Broken
 freeze_rules header line = condition_rules header (header_scope Setting.Freeze) line.condition
 
-abbrev pub optional_freeze_rules : Header → Option ConditionLine → List Broken
+abbrev pub optional_freeze_rules : Declared → Option ConditionLine → List Broken
 optional_freeze_rules header freeze = option_map_or (freeze_rules header) freeze []

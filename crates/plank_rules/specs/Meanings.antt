@@ -7,7 +7,7 @@ use Rattle.plank_ast.specs.declared.names.Field.{Field}
 use Rattle.plank_ast.specs.declared.conditions.Operand.{Operand}
 use Rattle.plank_rules.specs.declared.broken.Broken.{Broken}
 use Rattle.plank_rules.specs.declared.scopes.Setting.{Setting}
-use Rattle.plank_rules.specs.declared.scopes.Header.{Header}
+use Rattle.plank_rules.specs.declared.names.Declared.{Declared}
 use Rattle.plank_rules.specs.declared.scopes.Scope.{Scope}
 use Rattle.plank_rules.specs.declared.meanings.NodeMeaning.{NodeMeaning}
 use Rattle.plank_rules.specs.declared.meanings.FieldMeaning.{FieldMeaning}
@@ -59,12 +59,12 @@ abbrev pub reference_meaning : Scope → Reference → NodeMeaning
 reference_meaning scope (Reference.Root place) = NodeMeaning.Root
 reference_meaning scope (Reference.Name name) = name_meaning scope name.label
 
-abbrev pub label_meaning : Header → List ℕ → FieldMeaning
+abbrev pub label_meaning : Declared → List ℕ → FieldMeaning
 label_meaning header label =
     if is_among header.flags label then FieldMeaning.Flag
     else if is_among header.pointers label then FieldMeaning.Pointer else FieldMeaning.Unknown
 
-abbrev pub field_meaning : Header → Field → FieldMeaning
+abbrev pub field_meaning : Declared → Field → FieldMeaning
 field_meaning header (Field.Name name) = label_meaning header name.label
 field_meaning header (Field.Key place) = FieldMeaning.Key
 
@@ -98,7 +98,7 @@ dotted setting NodeMeaning.Key field = misread field
 dotted setting NodeMeaning.Node field = read setting field
 dotted setting NodeMeaning.Root field = if is_header setting then misread field else read setting field
 
-abbrev pub operand_meaning : Header → Scope → Operand → Meaning
+abbrev pub operand_meaning : Declared → Scope → Operand → Meaning
 operand_meaning header scope (Operand.Node node None) = alone scope.setting (reference_meaning scope node)
 operand_meaning header scope (Operand.Node node (Some field)) =
     dotted scope.setting (reference_meaning scope node) (field_meaning header field)
@@ -135,14 +135,14 @@ abbrev pub unknown_reference : Scope → Reference → List Broken
 unknown_reference scope reference = unknown_node (reference_meaning scope reference) (reference_place reference)
 
 -- a name that is no field
-abbrev pub unknown_field_name : Header → Name → List Broken
+abbrev pub unknown_field_name : Declared → Name → List Broken
 unknown_field_name header name = unknown_label (label_meaning header name.label) name.place
 
-abbrev pub unknown_field : Header → Field → List Broken
+abbrev pub unknown_field : Declared → Field → List Broken
 unknown_field header (Field.Name name) = unknown_field_name header name
 unknown_field header (Field.Key place) = []
 
-abbrev pub unknown_operand : Header → Scope → Operand → List Broken
+abbrev pub unknown_operand : Declared → Scope → Operand → List Broken
 unknown_operand header scope (Operand.Node node None) = unknown_reference scope node
 unknown_operand header scope (Operand.Node node (Some field)) = unknown_reference scope node ++ unknown_field header field
 unknown_operand header scope (Operand.Min place) = []

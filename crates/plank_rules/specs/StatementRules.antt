@@ -21,7 +21,7 @@ use Rattle.plank_ast.specs.declared.statements.Else.{Else}
 use Rattle.plank_ast.specs.declared.statements.Else.TheOpen.{Else-F, Statement-F, Body-F}
 use Rattle.plank_ast.specs.declared.statements.Else.TheFolds.{fold-Statement, fold-Body, fold-Else}
 use Rattle.plank_rules.specs.declared.broken.Broken.{Broken}
-use Rattle.plank_rules.specs.declared.scopes.Header.{Header}
+use Rattle.plank_rules.specs.declared.names.Declared.{Declared}
 use Rattle.plank_rules.specs.declared.scopes.Scope.{Scope}
 use Rattle.plank_rules.specs.declared.meanings.NodeMeaning.{NodeMeaning}
 use Rattle.plank_rules.specs.declared.meanings.FieldMeaning.{FieldMeaning}
@@ -35,7 +35,7 @@ use Rattle.plank_rules.specs.Atoms.{is_unknown, atom_rules}
 -- ---- nodes and their pointers
 
 -- what a reference with a field means
-abbrev pub access_meaning : Header → Scope → Reference → Name → Meaning
+abbrev pub access_meaning : Declared → Scope → Reference → Name → Meaning
 access_meaning header scope node field =
     dotted scope.setting (reference_meaning scope node) (label_meaning header field.label)
 
@@ -47,7 +47,7 @@ abbrev pub node_rules : Scope → Reference → List Broken
 node_rules scope node = no_node (reference_meaning scope node) (reference_place node)
 
 -- a read of a pointer
-abbrev pub read_rules : Header → Scope → Reference → Name → List Broken
+abbrev pub read_rules : Declared → Scope → Reference → Name → List Broken
 read_rules header scope node field =
     unknown_reference scope node ++ unknown_field_name header field
     ++ no_pointer (access_meaning header scope node field) (reference_place node)
@@ -55,12 +55,12 @@ read_rules header scope node field =
 -- ---- tests
 
 -- `!` before what is no flag of the node
-abbrev pub refusal_rules : Header → Scope → Reference → Name → List Broken
+abbrev pub refusal_rules : Declared → Scope → Reference → Name → List Broken
 refusal_rules header scope node field =
     unknown_reference scope node ++ unknown_field_name header field
     ++ no_flag (access_meaning header scope node field) (reference_place node)
 
-abbrev pub test_rules : Header → Scope → Test → List Broken
+abbrev pub test_rules : Declared → Scope → Test → List Broken
 test_rules header scope (Test.Not place node field) = refusal_rules header scope node field
 test_rules header scope (Test.Atom atom) = atom_rules header scope atom
 
@@ -68,7 +68,7 @@ test_rules header scope (Test.Atom atom) = atom_rules header scope atom
 abbrev pub head_of : Meaning → Reference → List Occurrence
 head_of meaning node = if is_unknown meaning then [] else reference_occurrence node ∷ []
 
-abbrev pub operand_heads : Header → Scope → Operand → List Occurrence
+abbrev pub operand_heads : Declared → Scope → Operand → List Occurrence
 operand_heads header scope (Operand.Node node None) = []
 operand_heads header scope (Operand.Node node (Some field)) =
     head_of (dotted scope.setting (reference_meaning scope node) (field_meaning header field)) node
@@ -76,12 +76,12 @@ operand_heads header scope (Operand.Min place) = []
 operand_heads header scope (Operand.Max place) = []
 operand_heads header scope (Operand.Null place) = []
 
-abbrev pub atom_end_heads : Header → Scope → AtomEnd → List Occurrence
+abbrev pub atom_end_heads : Declared → Scope → AtomEnd → List Occurrence
 atom_end_heads header scope AtomEnd.Nothing = []
 atom_end_heads header scope (AtomEnd.Compared comparison place operand) = operand_heads header scope operand
 atom_end_heads header scope (AtomEnd.In place node) = []
 
-abbrev pub test_heads : Header → Scope → Test → List Occurrence
+abbrev pub test_heads : Declared → Scope → Test → List Occurrence
 test_heads header scope (Test.Not place node field) = head_of (access_meaning header scope node field) node
 test_heads header scope (Test.Atom atom) = operand_heads header scope atom.operand ++ atom_end_heads header scope atom.end
 
@@ -89,7 +89,7 @@ abbrev pub test_list : Tests → List Test
 test_list tests = tests.first ∷ tests.others
 
 -- the tests of an `if` or a `while`, with a second node variable before `.`
-abbrev pub tests_rules : Header → Scope → Tests → List Broken
+abbrev pub tests_rules : Declared → Scope → Tests → List Broken
 tests_rules header scope tests =
     flat_map (test_rules header scope) (test_list tests) ++ others_than_first (flat_map (test_heads header scope) (test_list tests))
 
@@ -154,10 +154,10 @@ abbrev pub with_rules : Scope → With → List Broken
 with_rules scope names =
     flat_map (node_rules scope) (with_list names) ++ repeats (map reference_occurrence (with_list names))
 
-abbrev pub test_line_rules : Header → Scope → TestLine → List Broken
+abbrev pub test_line_rules : Declared → Scope → TestLine → List Broken
 test_line_rules header scope line = test_rules header scope line.test
 
-abbrev pub bind_rules : Header → Scope → Bind → List Broken
+abbrev pub bind_rules : Declared → Scope → Bind → List Broken
 bind_rules header scope bind = name_rules scope bind.variable ++ read_rules header scope bind.node bind.field
 
 -- a node where a flag is needed
@@ -191,20 +191,20 @@ written_rules scope FieldMeaning.Pointer value = pointer_value_rules scope value
 written_rules scope FieldMeaning.Unknown value = any_value_rules scope value
 written_rules scope FieldMeaning.Key value = any_value_rules scope value
 
-abbrev pub write_rules : Header → Scope → Write → List Broken
+abbrev pub write_rules : Declared → Scope → Write → List Broken
 write_rules header scope write =
     unknown_reference scope write.node ++ unknown_field_name header write.field
     ++ misplaced (access_meaning header scope write.node write.field) (reference_place write.node)
     ++ written_rules scope (label_meaning header write.field.label) write.value
 
-abbrev pub write_heads : Header → Scope → Write → List Occurrence
+abbrev pub write_heads : Declared → Scope → Write → List Occurrence
 write_heads header scope write = head_of (access_meaning header scope write.node write.field) write.node
 
 abbrev pub written_field : Write → Occurrence
 written_field write = occurrence write.field
 
 -- the writes of a block: each by itself, to one name, and to a field once
-abbrev pub writes_rules : Header → Scope → List Write → List Broken
+abbrev pub writes_rules : Declared → Scope → List Write → List Broken
 writes_rules header scope writes =
     flat_map (write_rules header scope) writes ++ others_than_first (flat_map (write_heads header scope) writes)
     ++ repeats (map written_field writes)
@@ -216,7 +216,7 @@ optional_with_rules scope names = option_map_or (with_rules scope) names []
 abbrev pub block_reuses : Scope → Option With → List TestLine → List Bind → List Write → List Broken
 block_reuses scope names tests binds writes = reuses (bound_by scope binds) (block_names names tests binds writes)
 
-abbrev pub block_rules : Header → Scope → Option With → List TestLine → List Bind → List Write → List Broken
+abbrev pub block_rules : Declared → Scope → Option With → List TestLine → List Bind → List Write → List Broken
 block_rules header scope names tests binds writes =
     optional_with_rules scope names ++ flat_map (test_line_rules header scope) tests
     ++ flat_map (bind_rules header scope) binds ++ writes_rules header scope writes
@@ -229,19 +229,19 @@ abbrev pub read_reuses : Scope → Name → Reference → List Broken
 read_reuses scope variable node =
     reuses (with_bound scope [] variable.label) (occurrence variable ∷ reference_occurrence node ∷ [])
 
-abbrev pub read_statement_rules : Header → Scope → Name → Reference → Name → List Broken
+abbrev pub read_statement_rules : Declared → Scope → Name → Reference → Name → List Broken
 read_statement_rules header scope variable node field =
     name_rules scope variable ++ read_rules header scope node field ++ read_reuses scope variable node
 
-abbrev pub assign_rules : Header → Scope → Name → Assigned → List Broken
+abbrev pub assign_rules : Declared → Scope → Name → Assigned → List Broken
 assign_rules header scope variable (Assigned.New place) = name_rules scope variable
 assign_rules header scope variable (Assigned.Null place) = name_rules scope variable
 assign_rules header scope variable (Assigned.Node node None) = name_rules scope variable ++ node_rules scope node
 assign_rules header scope variable (Assigned.Node node (Some field)) = read_statement_rules header scope variable node field
 
 -- `lock` and `unlock`, unknown where the header has no lock
-abbrev pub lock_rules : Header → Scope → Place → Reference → List Broken
-lock_rules header scope place node = when (not header.locks) (unknown place) ++ node_rules scope node
+abbrev pub lock_rules : Declared → Scope → Place → Reference → List Broken
+lock_rules header scope place node = when (not header.has_lock) (unknown place) ++ node_rules scope node
 
 -- one layer of a statement, the rules of its parts known already
 abbrev pub body_layer : Body-F (List Broken) (List Broken) (List Broken) → List Broken
@@ -251,7 +251,7 @@ abbrev pub else_layer : Else-F (List Broken) (List Broken) (List Broken) → Lis
 else_layer Else-F.Nothing = []
 else_layer (Else-F.Body place body) = body
 
-abbrev pub statement_layer : Header → Scope → Statement-F (List Broken) (List Broken) (List Broken) → List Broken
+abbrev pub statement_layer : Declared → Scope → Statement-F (List Broken) (List Broken) (List Broken) → List Broken
 statement_layer header scope (Statement-F.Assign variable value) = assign_rules header scope variable value
 statement_layer header scope (Statement-F.Atomic place names tests binds writes otherwise) =
     block_rules header scope names tests binds writes ++ otherwise
@@ -264,14 +264,14 @@ statement_layer header scope (Statement-F.Break place) = []
 statement_layer header scope (Statement-F.Continue place) = []
 statement_layer header scope (Statement-F.Return place answer) = []
 
-abbrev pub statement_rules : Header → Scope → Statement → List Broken
+abbrev pub statement_rules : Declared → Scope → Statement → List Broken
 statement_rules header scope =
     fold-Statement (List Broken) (List Broken) (List Broken) else_layer (statement_layer header scope) body_layer
 
-abbrev pub body_rules : Header → Scope → Body → List Broken
+abbrev pub body_rules : Declared → Scope → Body → List Broken
 body_rules header scope =
     fold-Body (List Broken) (List Broken) (List Broken) else_layer (statement_layer header scope) body_layer
 
-abbrev pub else_rules : Header → Scope → Else → List Broken
+abbrev pub else_rules : Declared → Scope → Else → List Broken
 else_rules header scope =
     fold-Else (List Broken) (List Broken) (List Broken) else_layer (statement_layer header scope) body_layer

@@ -7,14 +7,15 @@ use crate::broken::Broken;
 use crate::meanings::{
     Meaning, add_no_node, add_no_pointer, add_unknown_field_name, add_unknown_reference, dotted,
 };
+use crate::names::Declared;
 use crate::occurrences::reference_place;
-use crate::scopes::{Header, Scope};
+use crate::scopes::Scope;
 use plank_ast::{Name, Reference};
 use plank_base::OutOfMemory;
 
 /// What a node with a field means.
 pub(crate) fn access_meaning(
-    header: &Header<'_>,
+    header: &Declared<'_>,
     scope: &Scope<'_>,
     node: &Reference,
     field: &Name,
@@ -52,7 +53,7 @@ pub(crate) fn add_node_rules(
 /// A read of a pointer.
 pub(crate) fn add_read_rules(
     out: &mut Vec<Broken>,
-    header: &Header<'_>,
+    header: &Declared<'_>,
     scope: &Scope<'_>,
     node: &Reference,
     field: &Name,

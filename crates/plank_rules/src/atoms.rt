@@ -9,7 +9,8 @@ use crate::meanings::{
     Meaning, NodeMeaning, add_misplaced, add_no_flag, add_unknown_name, add_unknown_operand,
     operand_meaning, operand_place,
 };
-use crate::scopes::{Header, Scope, Setting};
+use crate::names::Declared;
+use crate::scopes::{Scope, Setting};
 use plank_ast::{Atom, AtomEnd, Comparison, Name, Operand};
 use plank_base::{OutOfMemory, Place, TypeKind};
 
@@ -184,7 +185,7 @@ fn add_compared(
     Ok(())
 }
 
-fn side_of(header: &Header<'_>, scope: &Scope<'_>, operand: &Operand) -> Side
+fn side_of(header: &Declared<'_>, scope: &Scope<'_>, operand: &Operand) -> Side
     ensures meaning { result.meaning ≡ operand_meaning header.now scope.now operand.now }
     ensures place { result.place ≡ operand_place operand.now }
 {
@@ -197,7 +198,7 @@ fn side_of(header: &Header<'_>, scope: &Scope<'_>, operand: &Operand) -> Side
 /// What an operand breaks by itself.
 fn add_operand_rules(
     out: &mut Vec<Broken>,
-    header: &Header<'_>,
+    header: &Declared<'_>,
     scope: &Scope<'_>,
     operand: &Operand,
 ) -> Result<(), OutOfMemory>
@@ -214,7 +215,7 @@ fn add_operand_rules(
 
 fn add_comparison_rules(
     out: &mut Vec<Broken>,
-    header: &Header<'_>,
+    header: &Declared<'_>,
     scope: &Scope<'_>,
     first: &Operand,
     comparison: Comparison,
@@ -233,7 +234,7 @@ fn add_comparison_rules(
 /// An operand alone is to be a flag of a node.
 fn add_alone_rules(
     out: &mut Vec<Broken>,
-    header: &Header<'_>,
+    header: &Declared<'_>,
     scope: &Scope<'_>,
     operand: &Operand,
 ) -> Result<(), OutOfMemory>
@@ -268,7 +269,7 @@ fn is_visit(scope: &Scope<'_>, operand: &Operand, node: NodeMeaning) -> bool
 /// `in` anywhere but as `j in x` in a keep.
 fn add_no_visit(
     out: &mut Vec<Broken>,
-    header: &Header<'_>,
+    header: &Declared<'_>,
     scope: &Scope<'_>,
     operand: &Operand,
     place: Place,
@@ -288,7 +289,7 @@ fn add_no_visit(
 
 fn add_in_rules(
     out: &mut Vec<Broken>,
-    header: &Header<'_>,
+    header: &Declared<'_>,
     scope: &Scope<'_>,
     operand: &Operand,
     place: Place,
@@ -309,7 +310,7 @@ fn add_in_rules(
 
 pub(crate) fn add_atom_rules(
     out: &mut Vec<Broken>,
-    header: &Header<'_>,
+    header: &Declared<'_>,
     scope: &Scope<'_>,
     atom: &Atom,
 ) -> Result<(), OutOfMemory>

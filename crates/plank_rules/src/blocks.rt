@@ -11,10 +11,11 @@ use crate::meanings::{
     FieldMeaning, NodeMeaning, add_misplaced, add_unknown_field_name, add_unknown_reference,
 };
 use crate::method_tests::{add_test_rules, push_head};
+use crate::names::Declared;
 use crate::occurrences::{
     Occurrence, add_others_than_first, add_repeats, add_reuses, push, reference_place,
 };
-use crate::scopes::{Header, Scope};
+use crate::scopes::Scope;
 use plank_ast::{Bind, Reference, TestLine, With, Write, Written};
 use plank_base::{OutOfMemory, Place, TypeKind};
 use std::alloc::Global;
@@ -65,7 +66,7 @@ fn add_optional_with(
 
 fn add_test_lines(
     out: &mut Vec<Broken>,
-    header: &Header<'_>,
+    header: &Declared<'_>,
     scope: &Scope<'_>,
     lines: &[TestLine],
 ) -> Result<(), OutOfMemory>
@@ -80,7 +81,7 @@ fn add_test_lines(
 
 fn add_binds(
     out: &mut Vec<Broken>,
-    header: &Header<'_>,
+    header: &Declared<'_>,
     scope: &Scope<'_>,
     binds: &[Bind],
 ) -> Result<(), OutOfMemory>
@@ -171,7 +172,7 @@ fn add_written(
 
 fn add_write(
     out: &mut Vec<Broken>,
-    header: &Header<'_>,
+    header: &Declared<'_>,
     scope: &Scope<'_>,
     write: &Write,
 ) -> Result<(), OutOfMemory>
@@ -187,7 +188,7 @@ fn add_write(
 
 fn add_each_write(
     out: &mut Vec<Broken>,
-    header: &Header<'_>,
+    header: &Declared<'_>,
     scope: &Scope<'_>,
     writes: &[Write],
 ) -> Result<(), OutOfMemory>
@@ -203,7 +204,7 @@ fn add_each_write(
 /// The names that are written to, unless one is unknown or its field is.
 fn write_heads<'a>(
     alloc: Global,
-    header: &Header<'_>,
+    header: &Declared<'_>,
     scope: &Scope<'_>,
     writes: &'a [Write],
 ) -> Result<Vec<Occurrence<'a>>, OutOfMemory>
@@ -235,7 +236,7 @@ fn written_fields<'a>(
 fn add_writes(
     out: &mut Vec<Broken>,
     alloc: Global,
-    header: &Header<'_>,
+    header: &Declared<'_>,
     scope: &Scope<'_>,
     writes: &[Write],
 ) -> Result<(), OutOfMemory>
@@ -269,7 +270,7 @@ fn add_block_reuses(
 pub(crate) fn add_block_rules(
     out: &mut Vec<Broken>,
     alloc: Global,
-    header: &Header<'_>,
+    header: &Declared<'_>,
     scope: &Scope<'_>,
     with: &Option<With>,
     tests: &[TestLine],

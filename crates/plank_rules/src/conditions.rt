@@ -6,14 +6,15 @@ ghost use Rattle.plank_rules.specs.Conditions as spec;
 use crate::atoms::add_atom_rules;
 use crate::broken::Broken;
 use crate::meanings::{add_no_flag, add_unknown_field_name, add_unknown_name, dotted};
-use crate::scopes::{Header, Scope};
+use crate::names::Declared;
+use crate::scopes::Scope;
 use plank_ast::{Condition, Conjunction, Literal, Name};
 use plank_base::OutOfMemory;
 
 /// `!` before what is no flag of the node.
 fn add_negation_rules(
     out: &mut Vec<Broken>,
-    header: &Header<'_>,
+    header: &Declared<'_>,
     scope: &Scope<'_>,
     node: &Name,
     field: &Name,
@@ -34,7 +35,7 @@ fn add_negation_rules(
 #[cycle(conditions)]
 pub(crate) fn add_condition_rules(
     out: &mut Vec<Broken>,
-    header: &Header<'_>,
+    header: &Declared<'_>,
     scope: &Scope<'_>,
     condition: &Condition,
 ) -> Result<(), OutOfMemory>
@@ -51,7 +52,7 @@ pub(crate) fn add_condition_rules(
 #[cycle(conditions)]
 fn add_conjunction_rules(
     out: &mut Vec<Broken>,
-    header: &Header<'_>,
+    header: &Declared<'_>,
     scope: &Scope<'_>,
     conjunction: &Conjunction,
 ) -> Result<(), OutOfMemory>
@@ -68,7 +69,7 @@ fn add_conjunction_rules(
 #[cycle(conditions)]
 fn add_literal_rules(
     out: &mut Vec<Broken>,
-    header: &Header<'_>,
+    header: &Declared<'_>,
     scope: &Scope<'_>,
     literal: &Literal,
 ) -> Result<(), OutOfMemory>

@@ -7,9 +7,9 @@ ghost use Rattle.plank_rules.specs.Headers as spec;
 use crate::broken::{Broken, add_broken, add_when};
 use crate::conditions::add_condition_rules;
 use crate::meanings::{FieldMeaning, add_unknown_field_name};
-use crate::names::Names;
+use crate::names::{Declared, Names};
 use crate::occurrences::{Occurrence, add_repeats, push};
-use crate::scopes::{Header, Scope, Setting};
+use crate::scopes::{Scope, Setting};
 use plank_ast::{ConditionLine, Name, NamedCondition, RootLine, StartItem, StartLine, StartValue};
 use plank_base::{OutOfMemory, Place, TypeKind};
 use std::alloc::Global;
@@ -165,7 +165,7 @@ fn add_value_rules(
 
 fn add_items(
     out: &mut Vec<Broken>,
-    header: &Header<'_>,
+    header: &Declared<'_>,
     starts: &Names<'_>,
     items: &[StartItem],
 ) -> Result<(), OutOfMemory>
@@ -195,7 +195,7 @@ fn item_fields<'a>(
 pub(crate) fn add_start_rules(
     out: &mut Vec<Broken>,
     alloc: Global,
-    header: &Header<'_>,
+    header: &Declared<'_>,
     starts: &Names<'_>,
     line: &StartLine,
 ) -> Result<(), OutOfMemory>
@@ -224,7 +224,7 @@ fn add_pointer_rules(
 
 fn add_each_edge(
     out: &mut Vec<Broken>,
-    header: &Header<'_>,
+    header: &Declared<'_>,
     scope: &Scope<'_>,
     edges: &[NamedCondition],
 ) -> Result<(), OutOfMemory>
@@ -254,7 +254,7 @@ fn named_conditions<'a>(
 pub(crate) fn add_edges_rules(
     out: &mut Vec<Broken>,
     alloc: Global,
-    header: &Header<'_>,
+    header: &Declared<'_>,
     edges: &[NamedCondition],
 ) -> Result<(), OutOfMemory>
     ensures { OnOk result (Adds out.old.items out.new.items
@@ -269,7 +269,7 @@ pub(crate) fn add_edges_rules(
 pub(crate) fn add_holds_rules(
     out: &mut Vec<Broken>,
     alloc: Global,
-    header: &Header<'_>,
+    header: &Declared<'_>,
     line: &ConditionLine,
 ) -> Result<(), OutOfMemory>
     ensures { OnOk result (Adds out.old.items out.new.items
@@ -281,7 +281,7 @@ pub(crate) fn add_holds_rules(
 
 fn add_each_keep(
     out: &mut Vec<Broken>,
-    header: &Header<'_>,
+    header: &Declared<'_>,
     scope: &Scope<'_>,
     keeps: &[NamedCondition],
 ) -> Result<(), OutOfMemory>
@@ -297,7 +297,7 @@ fn add_each_keep(
 pub(crate) fn add_keeps_rules(
     out: &mut Vec<Broken>,
     alloc: Global,
-    header: &Header<'_>,
+    header: &Declared<'_>,
     keeps: &[NamedCondition],
 ) -> Result<(), OutOfMemory>
     ensures { OnOk result (Adds out.old.items out.new.items
@@ -312,7 +312,7 @@ pub(crate) fn add_keeps_rules(
 fn add_freeze_rules(
     out: &mut Vec<Broken>,
     alloc: Global,
-    header: &Header<'_>,
+    header: &Declared<'_>,
     line: &ConditionLine,
 ) -> Result<(), OutOfMemory>
     ensures { OnOk result (Adds out.old.items out.new.items
@@ -325,7 +325,7 @@ fn add_freeze_rules(
 pub(crate) fn add_optional_freeze(
     out: &mut Vec<Broken>,
     alloc: Global,
-    header: &Header<'_>,
+    header: &Declared<'_>,
     freeze: &Option<ConditionLine>,
 ) -> Result<(), OutOfMemory>
     ensures { OnOk result (Adds out.old.items out.new.items

@@ -23,4 +23,5 @@ mod text_rules;
 
 pub use broken::Broken;
 pub use laws::{first_is_least, looks_up_what_is_declared};
-pub use text_rules::first_broken;
+pub use names::{Declared, Names};
+pub use text_rules::{declared_by, first_broken};

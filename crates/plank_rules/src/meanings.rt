@@ -4,8 +4,9 @@ ghost use Rattle.plank_rules.specs.Faults.{Adds};
 ghost use Rattle.plank_rules.specs.Meanings as spec;
 
 use crate::broken::{Broken, add_broken};
+use crate::names::Declared;
 use crate::occurrences::reference_place;
-use crate::scopes::{Header, Scope, Setting};
+use crate::scopes::{Scope, Setting};
 use plank_ast::{Field, Name, Operand, Reference};
 use plank_base::{OutOfMemory, Place, TypeKind};
 
@@ -66,7 +67,7 @@ impl Scope<'_> {
     }
 }
 
-impl Header<'_> {
+impl Declared<'_> {
     ghost use Rattle.plank_rules.specs.Meanings as spec;
 
     pub(crate) fn label_meaning(&self, name: &Name) -> FieldMeaning
@@ -168,7 +169,11 @@ pub(crate) fn dotted(setting: Setting, node: NodeMeaning, field: FieldMeaning) -
     }
 }
 
-pub(crate) fn operand_meaning(header: &Header<'_>, scope: &Scope<'_>, operand: &Operand) -> Meaning
+pub(crate) fn operand_meaning(
+    header: &Declared<'_>,
+    scope: &Scope<'_>,
+    operand: &Operand,
+) -> Meaning
     ensures { result ≡ spec.operand_meaning header.now scope.now operand.now }
 {
     match operand {
@@ -250,7 +255,7 @@ pub(crate) fn add_unknown_reference(
 
 pub(crate) fn add_unknown_field_name(
     out: &mut Vec<Broken>,
-    header: &Header<'_>,
+    header: &Declared<'_>,
     name: &Name,
 ) -> Result<(), OutOfMemory>
     ensures { OnOk result (Adds out.old.items out.new.items
@@ -261,7 +266,7 @@ pub(crate) fn add_unknown_field_name(
 
 fn add_unknown_field(
     out: &mut Vec<Broken>,
-    header: &Header<'_>,
+    header: &Declared<'_>,
     field: &Field,
 ) -> Result<(), OutOfMemory>
     ensures { OnOk result (Adds out.old.items out.new.items
@@ -275,7 +280,7 @@ fn add_unknown_field(
 
 pub(crate) fn add_unknown_operand(
     out: &mut Vec<Broken>,
-    header: &Header<'_>,
+    header: &Declared<'_>,
     scope: &Scope<'_>,
     operand: &Operand,
 ) -> Result<(), OutOfMemory>

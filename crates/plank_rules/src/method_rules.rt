@@ -10,20 +10,22 @@ ghost use Rattle.plank_rules.specs.MethodRules as spec;
 use crate::broken::{Broken, add_when};
 use crate::flow::can_complete;
 use crate::loops::{add_still, add_stray};
-use crate::names::Names;
+use crate::names::{Declared, Names};
 use crate::occurrences::{Occurrence, add_repeats, distinct_names, push};
-use crate::scopes::{Header, Scope, Setting};
+use crate::scopes::{Scope, Setting};
 use crate::statements::add_statement_rules;
 use plank_ast::{Method, Name, Statement, Variables};
 use plank_base::{OutOfMemory, TypeKind};
 use std::alloc::Global;
 
-fn is_operation(label: &[u8]) -> bool
-    ensures { result ≡ spec.is_operation label.now }
+/// Whether the word says what a method is for.
+fn is_kind(label: &[u8]) -> bool
+    ensures { result ≡ spec.is_kind label.now }
 {
     label == b"contains".as_slice()
         || label == b"insert".as_slice()
         || label == b"delete".as_slice()
+        || label == b"upkeep".as_slice()
 }
 
 /// The kind of a method: the word after `as`, or its own name.
@@ -40,7 +42,7 @@ fn kind_name<'a>(name: &'a Name, kind: &'a Option<Name>) -> &'a Name
 fn add_kind_rules(out: &mut Vec<Broken>, kind: &Name) -> Result<(), OutOfMemory>
     ensures { OnOk result (Adds out.old.items out.new.items (spec.kind_rules kind.now)) }
 {
-    let is_unknown = !is_operation(kind.label.as_bytes());
+    let is_unknown = !is_kind(kind.label.as_bytes());
     add_when(out, is_unknown, TypeKind::Unknown, kind.place)
 }
 
@@ -104,7 +106,7 @@ fn method_scope(alloc: Global, method: &Method) -> Result<Scope<'_>, OutOfMemory
 fn add_each_statement(
     out: &mut Vec<Broken>,
     alloc: Global,
-    header: &Header<'_>,
+    header: &Declared<'_>,
     scope: &Scope<'_>,
     statements: &[Statement],
 ) -> Result<(), OutOfMemory>
@@ -140,7 +142,7 @@ fn add_each_still(out: &mut Vec<Broken>, statements: &[Statement]) -> Result<(),
 fn add_statements_rules(
     out: &mut Vec<Broken>,
     alloc: Global,
-    header: &Header<'_>,
+    header: &Declared<'_>,
     method: &Method,
 ) -> Result<(), OutOfMemory>
     ensures { OnOk result (Adds out.old.items out.new.items
@@ -171,7 +173,7 @@ fn add_return_rules(out: &mut Vec<Broken>, method: &Method) -> Result<(), OutOfM
 pub(crate) fn add_method_rules(
     out: &mut Vec<Broken>,
     alloc: Global,
-    header: &Header<'_>,
+    header: &Declared<'_>,
     method: &Method,
 ) -> Result<(), OutOfMemory>
     ensures { OnOk result (Adds out.old.items out.new.items

@@ -10,15 +10,16 @@ use crate::broken::Broken;
 use crate::meanings::{
     Meaning, add_no_flag, add_unknown_field_name, add_unknown_reference, dotted,
 };
+use crate::names::Declared;
 use crate::occurrences::{Occurrence, add_others_than_first, push, reference_place};
-use crate::scopes::{Header, Scope};
+use crate::scopes::Scope;
 use plank_ast::{AtomEnd, Name, Operand, Reference, Test, Tests};
 use plank_base::OutOfMemory;
 use std::alloc::Global;
 
 fn add_negation_rules(
     out: &mut Vec<Broken>,
-    header: &Header<'_>,
+    header: &Declared<'_>,
     scope: &Scope<'_>,
     node: &Reference,
     field: &Name,
@@ -34,7 +35,7 @@ fn add_negation_rules(
 
 pub(crate) fn add_test_rules(
     out: &mut Vec<Broken>,
-    header: &Header<'_>,
+    header: &Declared<'_>,
     scope: &Scope<'_>,
     test: &Test,
 ) -> Result<(), OutOfMemory>
@@ -63,7 +64,7 @@ pub(crate) fn push_head<'a>(
 
 fn push_operand_heads<'a>(
     heads: &mut Vec<Occurrence<'a>>,
-    header: &Header<'_>,
+    header: &Declared<'_>,
     scope: &Scope<'_>,
     operand: &'a Operand,
 ) -> Result<(), OutOfMemory>
@@ -88,7 +89,7 @@ fn push_operand_heads<'a>(
 
 fn push_atom_end_heads<'a>(
     heads: &mut Vec<Occurrence<'a>>,
-    header: &Header<'_>,
+    header: &Declared<'_>,
     scope: &Scope<'_>,
     end: &'a AtomEnd,
 ) -> Result<(), OutOfMemory>
@@ -104,7 +105,7 @@ fn push_atom_end_heads<'a>(
 /// The names before `.` in a test.
 fn push_test_heads<'a>(
     heads: &mut Vec<Occurrence<'a>>,
-    header: &Header<'_>,
+    header: &Declared<'_>,
     scope: &Scope<'_>,
     test: &'a Test,
 ) -> Result<(), OutOfMemory>
@@ -124,7 +125,7 @@ fn push_test_heads<'a>(
 
 fn add_each_test(
     out: &mut Vec<Broken>,
-    header: &Header<'_>,
+    header: &Declared<'_>,
     scope: &Scope<'_>,
     tests: &[Test],
 ) -> Result<(), OutOfMemory>
@@ -139,7 +140,7 @@ fn add_each_test(
 
 fn push_each_head<'a>(
     heads: &mut Vec<Occurrence<'a>>,
-    header: &Header<'_>,
+    header: &Declared<'_>,
     scope: &Scope<'_>,
     tests: &'a [Test],
 ) -> Result<(), OutOfMemory>
@@ -156,7 +157,7 @@ fn push_each_head<'a>(
 pub(crate) fn add_tests_rules(
     out: &mut Vec<Broken>,
     alloc: Global,
-    header: &Header<'_>,
+    header: &Declared<'_>,
     scope: &Scope<'_>,
     tests: &Tests,
 ) -> Result<(), OutOfMemory>

@@ -1,15 +1,16 @@
-ghost use Rattle.std.specs.Prelude.{◌≡◌, ℕ, List, [], map, IfOk, OnOk, not};
-ghost use Rattle.plank_rules.specs.Declarations.{is_among, with_name};
+//! Names without repetitions, and those that a header declares: one table for the rules of typing and for the program.
+ghost use Rattle.std.specs.Prelude.{◌≡◌, ◌<◌, ℕ, List, [], length, map, IfOk, IfSome, OnOk, not};
+ghost use Rattle.plank_rules.specs.Declarations.{is_among, number_of, with_name};
 
 use indexmap::IndexSet;
 use plank_base::OutOfMemory;
 use std::alloc::Global;
 use std::marker::Model;
 
-/// Names without repetitions, each found in constant time. Contracts see them in the order in which
-/// they came.
+/// Names without repetitions, each found and numbered in constant time. Contracts see them in the order
+/// in which they came.
 #[derive(Debug, Drop)]
-pub(crate) struct Names<'a> {
+pub struct Names<'a> {
     set: IndexSet<&'a [u8]>,
 }
 
@@ -41,9 +42,33 @@ impl<'a> Names<'a> {
         }
     }
 
-    pub(crate) fn contains(&self, name: &[u8]) -> bool
+    pub fn contains(&self, name: &[u8]) -> bool
         ensures { result ≡ is_among self.now name.now }
     {
         self.set.contains(name)
     }
+
+    /// The number of a name: its place among the names.
+    pub fn number(&self, name: &[u8]) -> Option<usize>
+        ensures number { result ≡ number_of name.now self.now }
+        ensures within { IfSome result (λ number. number < length self.now) }
+    {
+        self.set.get_index_of(name)
+    }
+
+    pub fn len(&self) -> usize
+        ensures { result ≡ length self.now }
+    {
+        self.set.len()
+    }
+}
+
+/// The names that a header declares, of each kind those in the order of their first declarations.
+#[derive(Debug, Drop)]
+pub struct Declared<'a> {
+    pub flags: Names<'a>,
+    pub pointers: Names<'a>,
+    /// The start nodes.
+    pub nodes: Names<'a>,
+    pub has_lock: bool,
 }

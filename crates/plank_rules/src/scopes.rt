@@ -10,14 +10,6 @@ pub(crate) enum Setting {
     Method,
 }
 
-/// What the header declares for all conditions and methods.
-#[derive(Debug, Drop)]
-pub(crate) struct Header<'a> {
-    pub(crate) flags: Names<'a>,
-    pub(crate) pointers: Names<'a>,
-    pub(crate) locks: bool,
-}
-
 /// What names mean in a condition or a method.
 #[derive(Debug, Drop)]
 pub(crate) struct Scope<'a> {

@@ -8,9 +8,9 @@ use crate::block_names::add_bound;
 use crate::blocks::add_block_rules;
 use crate::broken::{Broken, add_when};
 use crate::method_tests::add_tests_rules;
-use crate::names::Names;
+use crate::names::{Declared, Names};
 use crate::occurrences::{Occurrence, add_reuses, push};
-use crate::scopes::{Header, Scope};
+use crate::scopes::Scope;
 use plank_ast::{Assigned, Body, Else, Name, Reference, Statement};
 use plank_base::{OutOfMemory, Place, TypeKind};
 use std::alloc::Global;
@@ -37,7 +37,7 @@ fn add_read_reuses(
 fn add_assign_rules(
     out: &mut Vec<Broken>,
     alloc: Global,
-    header: &Header<'_>,
+    header: &Declared<'_>,
     scope: &Scope<'_>,
     variable: &Name,
     value: &Assigned,
@@ -62,7 +62,7 @@ fn add_assign_rules(
 /// `lock` and `unlock`, unknown where the header has no lock.
 fn add_lock_rules(
     out: &mut Vec<Broken>,
-    header: &Header<'_>,
+    header: &Declared<'_>,
     scope: &Scope<'_>,
     place: Place,
     node: &Reference,
@@ -70,7 +70,7 @@ fn add_lock_rules(
     ensures { OnOk result (Adds out.old.items out.new.items
         (spec.lock_rules header.now scope.now place node.now)) }
 {
-    add_when(out, !header.locks, TypeKind::Unknown, place)?;
+    add_when(out, !header.has_lock, TypeKind::Unknown, place)?;
     add_node_rules(out, scope, node)
 }
 
@@ -78,7 +78,7 @@ fn add_lock_rules(
 fn add_body_rules(
     out: &mut Vec<Broken>,
     alloc: Global,
-    header: &Header<'_>,
+    header: &Declared<'_>,
     scope: &Scope<'_>,
     body: &Body,
 ) -> Result<(), OutOfMemory>
@@ -95,7 +95,7 @@ fn add_body_rules(
 fn add_else_rules(
     out: &mut Vec<Broken>,
     alloc: Global,
-    header: &Header<'_>,
+    header: &Declared<'_>,
     scope: &Scope<'_>,
     otherwise: &Else,
 ) -> Result<(), OutOfMemory>
@@ -112,7 +112,7 @@ fn add_else_rules(
 pub(crate) fn add_statement_rules(
     out: &mut Vec<Broken>,
     alloc: Global,
-    header: &Header<'_>,
+    header: &Declared<'_>,
     scope: &Scope<'_>,
     statement: &Statement,
 ) -> Result<(), OutOfMemory>

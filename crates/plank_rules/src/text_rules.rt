@@ -14,9 +14,8 @@ use crate::headers::{
     add_start_rules,
 };
 use crate::method_rules::add_method_rules;
-use crate::names::Names;
+use crate::names::{Declared, Names};
 use crate::occurrences::{Occurrence, add_repeats, distinct_names, push};
-use crate::scopes::Header;
 use plank_ast::{FlagLine, Method, PointerLine, StartLine, Text};
 use plank_base::OutOfMemory;
 use std::alloc::Global;
@@ -69,19 +68,21 @@ fn push_methods<'a>(
     Ok(())
 }
 
-/// What the header declares.
-#[tactic(auto, unfolding(crate::specs::BrokenRules::header_of))]
-fn header_of(alloc: Global, text: &Text) -> Result<Header<'_>, OutOfMemory>
-    ensures { IfOk result (λ header. header ≡ spec.header_of text.now) }
+/// The names that the header of a text declares, each once. Takes time and memory linear in the header.
+#[tactic(auto, unfolding(crate::specs::BrokenRules::declared_by))]
+pub fn declared_by(alloc: Global, text: &Text) -> Result<Declared<'_>, OutOfMemory>
+    ensures { IfOk result (λ header. header ≡ spec.declared_by text.now) }
 {
     let mut flags = Vec::new(alloc);
     push_flags(&mut flags, text.flags.as_slice())?;
     let mut pointers = Vec::new(alloc);
     push_pointers(&mut pointers, text.pointers.as_slice())?;
-    Ok(Header {
+    let nodes = start_names(alloc, text.starts.as_slice())?;
+    Ok(Declared {
         flags: distinct_names(alloc, &flags)?,
         pointers: distinct_names(alloc, &pointers)?,
-        locks: text.lock.is_some(),
+        nodes: distinct_names(alloc, &nodes)?,
+        has_lock: text.lock.is_some(),
     })
 }
 
@@ -99,7 +100,7 @@ fn add_field_repeats(out: &mut Vec<Broken>, alloc: Global, text: &Text) -> Resul
 fn add_each_start(
     out: &mut Vec<Broken>,
     alloc: Global,
-    header: &Header<'_>,
+    header: &Declared<'_>,
     starts: &Names<'_>,
     lines: &[StartLine],
 ) -> Result<(), OutOfMemory>
@@ -116,16 +117,15 @@ fn add_each_start(
 fn add_start_node_rules(
     out: &mut Vec<Broken>,
     alloc: Global,
-    header: &Header<'_>,
+    header: &Declared<'_>,
     text: &Text,
 ) -> Result<(), OutOfMemory>
     ensures { OnOk result (Adds out.old.items out.new.items
         (spec.start_node_rules header.now text.now)) }
 {
     let names = start_names(alloc, text.starts.as_slice())?;
-    let starts = distinct_names(alloc, &names)?;
-    add_roots_rules(out, &starts, text.place, text.roots.as_slice())?;
-    add_each_start(out, alloc, header, &starts, text.starts.as_slice())?;
+    add_roots_rules(out, &header.nodes, text.place, text.roots.as_slice())?;
+    add_each_start(out, alloc, header, &header.nodes, text.starts.as_slice())?;
     add_repeats(out, alloc, &names)
 }
 
@@ -133,7 +133,7 @@ fn add_start_node_rules(
 fn add_condition_line_rules(
     out: &mut Vec<Broken>,
     alloc: Global,
-    header: &Header<'_>,
+    header: &Declared<'_>,
     text: &Text,
 ) -> Result<(), OutOfMemory>
     ensures { OnOk result (Adds out.old.items out.new.items
@@ -148,7 +148,7 @@ fn add_condition_line_rules(
 fn add_each_method(
     out: &mut Vec<Broken>,
     alloc: Global,
-    header: &Header<'_>,
+    header: &Declared<'_>,
     methods: &[Method],
 ) -> Result<(), OutOfMemory>
     ensures { OnOk result (Adds out.old.items out.new.items
@@ -164,7 +164,7 @@ fn add_each_method(
 fn add_methods_rules(
     out: &mut Vec<Broken>,
     alloc: Global,
-    header: &Header<'_>,
+    header: &Declared<'_>,
     text: &Text,
 ) -> Result<(), OutOfMemory>
     ensures { OnOk result (Adds out.old.items out.new.items
@@ -179,22 +179,33 @@ fn add_methods_rules(
 }
 
 #[tactic(auto, unfolding(crate::specs::BrokenRules::broken_rules))]
-fn add_text_rules(out: &mut Vec<Broken>, alloc: Global, text: &Text) -> Result<(), OutOfMemory>
+fn add_text_rules(
+    out: &mut Vec<Broken>,
+    alloc: Global,
+    header: &Declared<'_>,
+    text: &Text,
+) -> Result<(), OutOfMemory>
+    requires { header.now ≡ spec.declared_by text.now }
     ensures { OnOk result (Adds out.old.items out.new.items (spec.broken_rules text.now)) }
 {
     add_field_repeats(out, alloc, text)?;
-    let header = header_of(alloc, text)?;
-    add_start_node_rules(out, alloc, &header, text)?;
-    add_condition_line_rules(out, alloc, &header, text)?;
-    add_methods_rules(out, alloc, &header, text)
+    add_start_node_rules(out, alloc, header, text)?;
+    add_condition_line_rules(out, alloc, header, text)?;
+    add_methods_rules(out, alloc, header, text)
 }
 
 /// The first rule of typing that a text breaks, by its place and at one place by its kind; none where
-/// the text is well typed. Takes time and memory linear in the text.
-pub fn first_broken(alloc: Global, text: &Text) -> Result<Option<Broken>, OutOfMemory>
+/// the text is well typed. The names are those that [`declared_by`] gives of the text. Takes time and
+/// memory linear in the text.
+pub fn first_broken(
+    alloc: Global,
+    header: &Declared<'_>,
+    text: &Text,
+) -> Result<Option<Broken>, OutOfMemory>
+    requires { header.now ≡ spec.declared_by text.now }
     ensures { IfOk result (λ first. first ≡ first_of (spec.broken_rules text.now)) }
 {
     let mut broken = Vec::new(alloc);
-    add_text_rules(&mut broken, alloc, text)?;
+    add_text_rules(&mut broken, alloc, header, text)?;
     Ok(first_of(&broken))
 }

@@ -23,6 +23,13 @@ branch_failed m start values put after saved next part value so_far open_part pu
     let next_there : next ≡ with_value values part (not value) = next_is ∙ ap (λ (v : List (Option Bool)). with_value v part (not value)) saved_is in
     Narrows-then so_far (rw next_there (refuted values part value open_part none_there))
 
+-- the same, after a decision that left the values as they were
+pub decision_failed : (m : (ℕ → Bool) → Type 0) (start values decided put after saved next : List (Option Bool)) (part : ℕ) (value : Bool) →
+    Narrows m start values → (decided ≡ values) × IsOpen decided part → put ≡ with_value decided part value → Searches m put after false →
+    saved ≡ decided → next ≡ with_value saved part (not value) → Narrows m start next
+decision_failed m start values decided put after saved next part value so_far open_part put_is none saved_is next_is =
+    branch_failed m start decided put after saved next part value (rw open_part.0 so_far) open_part.1 put_is none saved_is next_is
+
 -- where all that agree are of this kind, so is the filled assignment
 pub solved : (m : (ℕ → Bool) → Type 0) (given values : List (Option Bool)) (found : List Bool) → Settles m given values → found ≡ filled values → IsSolution m given found
 solved m given values found settled found_is = rw found_is (record {

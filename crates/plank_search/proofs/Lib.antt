@@ -2,7 +2,10 @@ pub mod Assigning
 pub mod Narrowing
 pub mod Standings
 pub mod Probing
+pub mod Completing
 pub mod Deciding
 pub mod Alternatives
 pub mod Tallies
 pub mod OrderRows
+pub mod Claims
+pub mod Questions

@@ -3,7 +3,7 @@ use Rattle.std.specs.Prelude.{◌≡◌, ◌<◌, ℕ, Bool, true, false, List, 
 use Rattle.plank_search.specs.Assignments.{Agrees, IsOpen, full_of, NoneAgrees, AllAgree, Narrows, open_count}
 use Rattle.plank_search.specs.declared.rules.Look.{Look}
 use Rattle.plank_search.specs.declared.rules.Look.TheVariants.{Fails, Holds, Needs}
-use Rattle.plank_search.specs.Meanings.{literal_holds, clause_holds, some_goal}
+use Rattle.plank_search.specs.Meanings.{literal_holds, clause_holds, claims_hold, some_goal}
 use Rattle.plank_search.specs.declared.clauses.Literal.{Literal}
 use Rattle.plank_search.specs.declared.steps.Step.{Step}
 use Rattle.plank_search.specs.declared.steps.Step.TheVariants as step
@@ -44,6 +44,27 @@ abbrev pub Searches : ((ℕ → Bool) → Type 0) → List (Option Bool) → Lis
 Searches meets old new true = Settles meets old new
 Searches meets old new false = NoneAgrees meets old
 
+-- values that let in none that disagreed with the old ones
+pub record IsWithin (old new : List (Option Bool)) : Type 0 where
+  pub within : (full : ℕ → Bool) → Agrees new full → Agrees old full
+  pub same_length : length new ≡ length old
+
+-- open parts that were given values, with no regard to what meets; nothing is said where that failed
+abbrev pub Fills : List (Option Bool) → List (Option Bool) → Bool → Type 0
+Fills old new true = IsWithin old new
+Fills old new false = Unit {0}
+
+-- one try of a full assignment: it does, or all is as it was
+abbrev pub Completes : ((ℕ → Bool) → Type 0) → List (Option Bool) → List (Option Bool) → Bool → Type 0
+Completes meets old new true = Settles meets old new
+Completes meets old new false = new ≡ old
+
+-- a decision: nothing agrees, all that agree now are of this kind, or an open part to split on
+abbrev pub Decides : ((ℕ → Bool) → Type 0) → List (Option Bool) → List (Option Bool) → Look → Type 0
+Decides meets old new Fails = NoneAgrees meets old
+Decides meets old new Holds = Settles meets old new
+Decides meets old new (Needs part) = (new ≡ old) × IsOpen new part
+
 -- how a clause stands: broken, kept, as true as one open literal, or undecided with an open part
 abbrev pub Stands : List Literal → List (Option Bool) → Standing → Type 0
 Stands clause values standing.Broken = NoneAgrees (λ full. clause_holds full clause ≡ true) values
@@ -60,6 +81,16 @@ IsOpenIfSome values (Some part) = IsOpen values part
 abbrev pub look_for : Option ℕ → Look
 look_for None = Holds
 look_for (Some part) = Needs part
+
+-- claims that were put: the new values follow from the old and leave no choice of them, or nothing that claims so agrees
+abbrev pub Puts : ((ℕ → Bool) → Type 0) → List (Option Bool) → List (Option Bool) → Bool → Type 0
+Puts meets old new true = Narrows meets old new × AllAgree meets new
+Puts meets old new false = NoneAgrees meets old
+
+-- of this kind, with each of the claims
+pub record MeetsClaims (meets : (ℕ → Bool) → Type 0) (claims : List Literal) (full : ℕ → Bool) : Type 0 where
+  pub system : meets full
+  pub claimed : claims_hold full claims ≡ true
 
 -- of this kind, with at least one of the goals yes
 pub record MeetsWithGoal (meets : (ℕ → Bool) → Type 0) (goals : List ℕ) (full : ℕ → Bool) : Type 0 where

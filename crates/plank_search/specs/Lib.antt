@@ -3,3 +3,4 @@ pub mod Answers
 pub mod Meanings
 pub mod Counting
 pub mod ExampleOrder
+pub mod Sessions

@@ -1,6 +1,6 @@
 -- What a clause of literals and a whole system of rules mean at a full assignment.
 use Rattle.std.specs.Prelude.{◌≡◌, ◌<◌, ℕ, Bool, true, not, if◌then◌else◌, List, map, [], length, slice_index_or}
-use Rattle.std.specs.List.{list_any}
+use Rattle.std.specs.List.{list_any, list_all}
 use Rattle.plank_search.specs.declared.clauses.Literal.{Literal}
 
 -- the literal's part has the literal's value
@@ -31,3 +31,7 @@ some_goal goals full = list_any full goals
 -- the clause that at least one of the goals is yes
 abbrev pub goal_clause : List ℕ → List Literal
 goal_clause goals = map (λ goal. record { part = goal; value = true }) goals
+
+-- each of the claims holds
+abbrev pub claims_hold : (ℕ → Bool) → List Literal → Bool
+claims_hold full claims = list_all (literal_holds full) claims

@@ -1,7 +1,8 @@
-ghost use Rattle.std.specs.Prelude.{◌≡◌, ◌++◌, ◌∷◌, [], ◌<◌, length, slice_index_or, IfOk, OnOk, OnErr};
+ghost use Rattle.std.specs.Prelude.{◌≡◌, ◌++◌, ◌∷◌, [], ◌<◌, ◌^◌, length, slice_index_or, IfOk, OnOk, OnErr};
 ghost use Rattle.plank_search.specs.Meanings.{goal_clause};
 
-use plank_base::{OutOfMemory, Sequence};
+use plank_base::OutOfMemory;
+use sqlite_items::Items;
 use std::alloc::Global;
 use std::marker::Model;
 
@@ -19,7 +20,7 @@ pub struct Literal {
 /// Contracts see the list of the clauses, in the order in which they were added.
 #[derive(Debug, Drop)]
 pub struct Clauses {
-    clauses: Vec<Sequence<Literal>>,
+    clauses: Vec<Items<Literal>>,
 }
 
 impl Model for Clauses {
@@ -46,34 +47,25 @@ impl Clauses {
         ensures added { OnOk result (self.new ≡ self.old ++ literals.now ∷ []) }
         ensures refused { OnErr result (self.new ≡ self.old) }
     {
-        let clause = Sequence::from_vec(Vec::from_slice(alloc, literals)?);
+        let clause = Items::from_vec(Vec::from_slice(alloc, literals)?);
         self.clauses.push(clause)?;
         Ok(())
     }
 
-    /// A copy of the clauses, with the clause that at least one of the goals is yes at the end.
-    pub(crate) fn with_goals(&self, alloc: Global, goals: &[usize]) -> Result<Clauses, OutOfMemory>
-        ensures { IfOk result (λ clauses. clauses ≡ self.now ++ goal_clause goals.now ∷ []) }
+    /// One clause: that at least one of the goals is yes.
+    pub(crate) fn of_goals(alloc: Global, goals: &[usize]) -> Result<Clauses, OutOfMemory>
+        ensures { IfOk result (λ clauses. clauses ≡ goal_clause goals.now ∷ []) }
     {
-        let mut copy = self.copy(alloc)?;
+        let mut clauses = Clauses::new(alloc);
         let clause = goal_literals(alloc, goals)?;
-        copy.add(alloc, clause.as_slice())?;
-        Ok(copy)
-    }
-
-    fn copy(&self, alloc: Global) -> Result<Clauses, OutOfMemory>
-        ensures { IfOk result (λ clauses. clauses ≡ self.now) }
-    {
-        let mut copy = Clauses::new(alloc);
-        for clause in 0..self.len() {
-            copy.add(alloc, self.get(clause))?;
-        }
-        Ok(copy)
+        clauses.add(alloc, clause.as_slice())?;
+        Ok(clauses)
     }
 
     /// How many clauses there are.
     pub fn len(&self) -> usize
-        ensures { result ≡ length self.now }
+        ensures count { result ≡ length self.now }
+        ensures within { result < 2 ^ 63 }
     {
         self.clauses.len()
     }
@@ -98,4 +90,55 @@ fn goal_literals(alloc: Global, goals: &[usize]) -> Result<Vec<Literal>, OutOfMe
         })?;
     }
     Ok(literals)
+}
+
+/// The clauses of a system, and behind them those of one question about it.
+///
+/// Contracts see the list of both.
+#[derive(Debug, Drop)]
+pub(crate) struct AllClauses<'a> {
+    system: &'a Clauses,
+    question: &'a Clauses,
+}
+
+impl<'a> Model for AllClauses<'a> {
+    ghost use Rattle.std.specs.Prelude.{List, ◌++◌};
+    ghost use Rattle.plank_search.specs.declared.clauses.Literal.{Literal};
+
+    ghost Value = { List (List Literal) };
+
+    ghost view = { λ clauses. clauses.system.now ++ clauses.question.now };
+}
+
+impl<'a> AllClauses<'a> {
+    pub(crate) fn new(system: &'a Clauses, question: &'a Clauses) -> AllClauses<'a>
+        ensures { result ≡ system.now ++ question.now }
+    {
+        AllClauses { system, question }
+    }
+
+    /// How many clauses there are.
+    pub(crate) fn len(&self) -> usize
+        ensures { result ≡ length self.now }
+    {
+        self.system.len() + self.question.len()
+    }
+
+    /// The number of the question's first clause.
+    pub(crate) fn first_of_question(&self) -> usize {
+        self.system.len()
+    }
+
+    /// The literals of a clause.
+    pub(crate) fn get(&self, clause: usize) -> &[Literal]
+        requires { clause < length self.now }
+        ensures { result.now ≡ slice_index_or self.now clause [] }
+    {
+        let first = self.system.len();
+        if clause < first {
+            self.system.get(clause)
+        } else {
+            self.question.get(clause - first)
+        }
+    }
 }

@@ -4,7 +4,8 @@ ghost use Rattle.plank_search.specs.Counting.{count_holds, count_at, TallyOf, ta
 
 use crate::rules::{Look, Rules};
 use crate::values::{Reads, Values};
-use plank_base::{OutOfMemory, Sequence};
+use plank_base::OutOfMemory;
+use sqlite_items::Items;
 use std::alloc::Global;
 use std::marker::Model;
 
@@ -13,7 +14,7 @@ use std::marker::Model;
 #[derive(Debug, Drop)]
 pub struct Count {
     /// The parts that are counted.
-    pub parts: Sequence<usize>,
+    pub parts: Items<usize>,
     /// The least number that is allowed; more than there are parts allows nothing.
     pub least: usize,
     /// The greatest number that is allowed.

@@ -1,31 +1,44 @@
-ghost use Rattle.std.specs.Prelude.{◌≡◌, ◌<◌, Some};
+ghost use Rattle.std.specs.Prelude.{◌≡◌, ◌<◌, Some, IfOk};
 ghost use Rattle.plank_search.specs.Assignments.{IsOpen};
 ghost use Rattle.plank_search.specs.Meanings.{MeetsRules, MeetsClauses, Meets};
-ghost use Rattle.plank_search.specs.Answers.{Tells, IsOpenIfSome, look_for};
+ghost use Rattle.plank_search.specs.Answers.{Tells, Decides, IsOpenIfSome, look_for};
 
-use crate::clauses::Clauses;
+use crate::clauses::AllClauses;
+use crate::completion::complete;
 use crate::hints::Hints;
 use crate::rules::{Look, Rules};
 use crate::steps::{Standing, examine};
 use crate::values::Values;
+use plank_base::OutOfMemory;
+use std::alloc::Global;
 
 /// The part to split on. It is the most blamed of those that constraints wait for; where none
-/// waits, one that the last pass postponed; and where none is left, that pass looks at everything
-/// once more.
+/// waits, one that the last pass postponed. Where none is left, one full assignment is tried, and
+/// where that does not do, the last pass looks at everything once more.
 pub(crate) fn decide<R: Rules>(
+    alloc: Global,
     rules: &R,
-    clauses: &Clauses,
-    values: &Values,
+    clauses: &AllClauses<'_>,
+    values: &mut Values,
     hints: &mut Hints,
-) -> Look
-    ensures { Tells (Meets (R.meaning rules.now) (R.constraint_count rules.now) clauses.now) values.now result }
+) -> Result<Look, OutOfMemory>
+    ensures { IfOk result (Decides (Meets (R.meaning rules.now) (R.constraint_count rules.now) clauses.now) values.old values.new) }
+{
+    if let Some(part) = needed_part(values, hints) {
+        return Ok(Look::Needs(part));
+    }
+    if complete(alloc, rules, clauses, values, hints)? {
+        return Ok(Look::Holds);
+    }
+    Ok(last_pass(rules, clauses, values, hints))
+}
+
+fn needed_part(values: &Values, hints: &mut Hints) -> Option<usize>
+    ensures { IsOpenIfSome values.now result }
 {
     match most_blamed_waiting(values, hints) {
-        Some(part) => Look::Needs(part),
-        None => match next_postponed(values, hints) {
-            Some(part) => Look::Needs(part),
-            None => last_pass(rules, clauses, values, hints),
-        },
+        Some(part) => Some(part),
+        None => next_postponed(values, hints),
     }
 }
 
@@ -98,7 +111,12 @@ fn more_blamed(values: &Values, hints: &Hints, best: Option<usize>, part: usize)
 }
 
 /// Looks at every rule once more.
-fn last_pass<R: Rules>(rules: &R, clauses: &Clauses, values: &Values, hints: &mut Hints) -> Look
+pub(crate) fn last_pass<R: Rules>(
+    rules: &R,
+    clauses: &AllClauses<'_>,
+    values: &Values,
+    hints: &mut Hints,
+) -> Look
     ensures { Tells (Meets (R.meaning rules.now) (R.constraint_count rules.now) clauses.now) values.now result }
 {
     match pass_over_constraints(rules, values, hints) {
@@ -125,7 +143,7 @@ fn pass_over_constraints<R: Rules>(rules: &R, values: &Values, hints: &mut Hints
     look_of(need)
 }
 
-fn pass_over_clauses(clauses: &Clauses, values: &Values, hints: &Hints) -> Look
+fn pass_over_clauses(clauses: &AllClauses<'_>, values: &Values, hints: &Hints) -> Look
     ensures { Tells (MeetsClauses clauses.now) values.now result }
 {
     let mut need = None;

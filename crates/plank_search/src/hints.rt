@@ -39,18 +39,13 @@ pub(crate) struct Hints {
 }
 
 impl Hints {
-    /// Hints for a number of parts and of watched constraints. The goals are tried yes first.
+    /// Hints for a number of parts and of watched constraints, with no goals.
     pub(crate) fn new(
         alloc: Global,
         clauses: &Clauses,
         parts: usize,
         watched: usize,
-        goals: &[usize],
     ) -> Result<Hints, OutOfMemory> {
-        let mut tried_yes = vec![in alloc; false; parts]?;
-        for goal in goals {
-            mark(&mut tried_yes, *goal);
-        }
         Ok(Hints {
             waiting: Waiting::new(alloc, parts, watched)?,
             occurrences: Occurrences::new(alloc, clauses, parts)?,
@@ -58,12 +53,37 @@ impl Hints {
             statistics: Statistics::new(),
             postponed: Vec::new(alloc),
             blame: vec![in alloc; 0; parts]?,
-            goals: tried_yes,
+            goals: vec![in alloc; false; parts]?,
         })
     }
 
-    /// The value that a part is tried with first.
-    pub(crate) fn first_value(&self, part: usize) -> bool {
+    /// Keeps the waiting lists as they are, for the questions to come.
+    pub(crate) fn keep(&mut self) {
+        self.waiting.keep();
+    }
+
+    /// Before a question: its goals are tried yes first.
+    pub(crate) fn begin(&mut self, goals: &[usize]) {
+        self.postponed.clear();
+        self.mark_goals(goals, true);
+    }
+
+    /// After a question: the waiting lists and the goals are as they were kept. Blame stays.
+    pub(crate) fn end(&mut self, goals: &[usize]) {
+        self.waiting.undo(0);
+        self.mark_goals(goals, false);
+    }
+
+    fn mark_goals(&mut self, goals: &[usize], is_goal: bool) {
+        for goal in goals {
+            if *goal < self.goals.len() {
+                self.goals[*goal] = is_goal;
+            }
+        }
+    }
+
+    /// Whether a part is a goal of the question.
+    pub(crate) fn is_goal(&self, part: usize) -> bool {
         part < self.goals.len() && self.goals[part]
     }
 
@@ -111,12 +131,6 @@ impl Hints {
 
     pub(crate) fn count_conflict(&mut self) {
         self.statistics.conflicts = self.statistics.conflicts.saturating_add(1);
-    }
-}
-
-fn mark(marks: &mut Vec<bool>, at: usize) {
-    if at < marks.len() {
-        marks[at] = true;
     }
 }
 
@@ -186,6 +200,11 @@ impl Waiting {
             under_yes
         };
         self.change(place.saturating_add(2), last);
+    }
+
+    /// Forgets the changes: what waits now waits for good.
+    pub(crate) fn keep(&mut self) {
+        self.changes.clear();
     }
 
     /// How many changes there were.

@@ -2,7 +2,7 @@ ghost use Rattle.std.specs.Prelude.{◌<◌, true};
 ghost use Rattle.plank_search.specs.Meanings.{MeetsRules, MeetsClauses, Meets};
 ghost use Rattle.plank_search.specs.Answers.{Propagates};
 
-use crate::clauses::{Clauses, Literal};
+use crate::clauses::{AllClauses, Literal};
 use crate::hints::Hints;
 use crate::rules::Rules;
 use crate::steps::{settle, unit};
@@ -12,7 +12,7 @@ use crate::values::Values;
 /// clauses and closures, then the constraints that waited for the part.
 pub(crate) fn propagate<R: Rules>(
     rules: &R,
-    clauses: &Clauses,
+    clauses: &AllClauses<'_>,
     values: &mut Values,
     hints: &mut Hints,
 ) -> bool
@@ -35,19 +35,36 @@ pub(crate) fn propagate<R: Rules>(
 /// Looks at every clause and every watched constraint once; false on a conflict.
 pub(crate) fn look_at_all<R: Rules>(
     rules: &R,
-    clauses: &Clauses,
+    clauses: &AllClauses<'_>,
     values: &mut Values,
     hints: &mut Hints,
 ) -> bool
     ensures { Propagates (Meets (R.meaning rules.now) (R.constraint_count rules.now) clauses.now) values.old values.new result }
 {
-    look_at_clauses(clauses, values, hints) && look_at_constraints(rules, values, hints)
+    look_at_clauses(clauses, 0, values, hints) && look_at_constraints(rules, values, hints)
 }
 
-fn look_at_clauses(clauses: &Clauses, values: &mut Values, hints: &mut Hints) -> bool
+/// Looks at the clauses of the question, each once; false on a conflict.
+pub(crate) fn look_at_question(
+    clauses: &AllClauses<'_>,
+    values: &mut Values,
+    hints: &mut Hints,
+) -> bool
     ensures { Propagates (MeetsClauses clauses.now) values.old values.new result }
 {
-    for clause in 0..clauses.len() {
+    look_at_clauses(clauses, clauses.first_of_question(), values, hints)
+}
+
+// Looks at the clauses from the first one on.
+fn look_at_clauses(
+    clauses: &AllClauses<'_>,
+    first: usize,
+    values: &mut Values,
+    hints: &mut Hints,
+) -> bool
+    ensures { Propagates (MeetsClauses clauses.now) values.old values.new result }
+{
+    for clause in first..clauses.len() {
         if !wake_clause(clauses, clause, values, hints) {
             return false;
         }
@@ -59,7 +76,7 @@ fn look_at_constraints<R: Rules>(rules: &R, values: &mut Values, hints: &mut Hin
     ensures { Propagates (MeetsRules (R.meaning rules.now) (R.constraint_count rules.now)) values.old values.new result }
 {
     for constraint in 0..hints.waiting.len() {
-        if !wake_constraint(rules, constraint, values, hints) {
+        if rules.is_watched(constraint) && !wake_constraint(rules, constraint, values, hints) {
             return false;
         }
     }
@@ -69,7 +86,7 @@ fn look_at_constraints<R: Rules>(rules: &R, values: &mut Values, hints: &mut Hin
 // Clauses and closures of newly put parts, until none is left.
 fn propagate_clauses<R: Rules>(
     rules: &R,
-    clauses: &Clauses,
+    clauses: &AllClauses<'_>,
     values: &mut Values,
     hints: &mut Hints,
 ) -> bool
@@ -89,7 +106,7 @@ fn propagate_clauses<R: Rules>(
 // Puts what follows from a part by clauses and closures.
 fn follow<R: Rules>(
     rules: &R,
-    clauses: &Clauses,
+    clauses: &AllClauses<'_>,
     part: usize,
     values: &mut Values,
     hints: &mut Hints,
@@ -112,16 +129,50 @@ fn close<R: Rules>(rules: &R, part: usize, values: &mut Values, hints: &mut Hint
 }
 
 // The clauses in which the value of a part makes a literal false.
-fn wake_clauses(clauses: &Clauses, part: usize, values: &mut Values, hints: &mut Hints) -> bool
+fn wake_clauses(
+    clauses: &AllClauses<'_>,
+    part: usize,
+    values: &mut Values,
+    hints: &mut Hints,
+) -> bool
     ensures { Propagates (MeetsClauses clauses.now) values.old values.new result }
 {
     let Some(value) = values.get(part) else {
         return true;
     };
-    let mut next = hints.occurrences.first_of(Literal {
+    let literal = Literal {
         part,
         value: !value,
-    });
+    };
+    wake_goals(clauses, literal, values, hints) && wake_occurrences(clauses, literal, values, hints)
+}
+
+// The clauses of the question, where a goal became no.
+fn wake_goals(
+    clauses: &AllClauses<'_>,
+    literal: Literal,
+    values: &mut Values,
+    hints: &mut Hints,
+) -> bool
+    ensures { Propagates (MeetsClauses clauses.now) values.old values.new result }
+{
+    if literal.value && hints.is_goal(literal.part) {
+        look_at_question(clauses, values, hints)
+    } else {
+        true
+    }
+}
+
+// The clauses of the system in which a literal stands.
+fn wake_occurrences(
+    clauses: &AllClauses<'_>,
+    literal: Literal,
+    values: &mut Values,
+    hints: &mut Hints,
+) -> bool
+    ensures { Propagates (MeetsClauses clauses.now) values.old values.new result }
+{
+    let mut next = hints.occurrences.first_of(literal);
     for _ in 0..hints.occurrences.len() {
         let Some((clause, after)) = hints.occurrences.item(next) else {
             return true;
@@ -134,7 +185,12 @@ fn wake_clauses(clauses: &Clauses, part: usize, values: &mut Values, hints: &mut
     true
 }
 
-fn wake_clause(clauses: &Clauses, clause: usize, values: &mut Values, hints: &mut Hints) -> bool
+fn wake_clause(
+    clauses: &AllClauses<'_>,
+    clause: usize,
+    values: &mut Values,
+    hints: &mut Hints,
+) -> bool
     ensures { Propagates (MeetsClauses clauses.now) values.old values.new result }
 {
     if clause < clauses.len() {

@@ -38,6 +38,12 @@ pub trait Rules {
         self.constraints()
     }
 
+    /// Whether a constraint is looked at during the search, and not by the last pass alone. A hint,
+    /// as `watched`.
+    fn is_watched(&self, constraint: usize) -> bool {
+        constraint < self.watched()
+    }
+
     /// Looks at a constraint under a partial assignment, reading parts until it is known or an open
     /// one is needed.
     fn look(&self, constraint: usize, values: &Values, reads: &mut Reads) -> Look

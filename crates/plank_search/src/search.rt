@@ -1,96 +1,42 @@
-ghost use Rattle.std.specs.Prelude.{◌≡◌, true, IfOk, IfSome, IfNone};
-ghost use Rattle.plank_search.specs.Assignments.{IsOpen, NoneAgrees, with_value};
+ghost use Rattle.std.specs.Prelude.{◌≡◌, IfOk};
+ghost use Rattle.plank_search.specs.Assignments.{IsOpen, with_value};
 ghost use Rattle.plank_search.specs.Meanings.{Meets};
-ghost use Rattle.plank_search.specs.Answers.{Searches, IsSolution, MeetsWithGoal};
+ghost use Rattle.plank_search.specs.Answers.{Propagates, Searches, MeetsClaims};
 
-use crate::clauses::Clauses;
+use crate::clauses::{AllClauses, Literal};
 use crate::decisions::decide;
-use crate::hints::{Hints, Statistics};
-use crate::propagation::{look_at_all, propagate};
+use crate::hints::Hints;
+use crate::propagation::{look_at_all, look_at_question, propagate};
 use crate::rules::{Look, Rules};
+use crate::steps::put_claims;
 use crate::values::Values;
-use plank_base::{OutOfMemory, Sequence};
+use plank_base::OutOfMemory;
 use std::alloc::Global;
 
-/// A full assignment that meets every rule and every clause and agrees with what is given; None
-/// exactly where there is none.
-///
-/// Parts are tried no first. The search always ends, and splits as often as it has to.
-pub fn find<R: Rules>(
-    alloc: Global,
+/// Puts what follows from the system alone, without a decision; false where nothing meets it.
+pub(crate) fn prepare<R: Rules>(
     rules: &R,
-    clauses: &Clauses,
-    given: &[Option<bool>],
-) -> Result<Option<Sequence<bool>>, OutOfMemory>
-    ensures found { IfOk result (λ answer. IfSome answer (λ found.
-        IsSolution (Meets (R.meaning rules.now) (R.constraint_count rules.now) clauses.now) given.now found)) }
-    ensures none { IfOk result (λ answer. IfNone answer
-        (NoneAgrees (Meets (R.meaning rules.now) (R.constraint_count rules.now) clauses.now) given.now)) }
+    clauses: &AllClauses<'_>,
+    values: &mut Values,
+    hints: &mut Hints,
+) -> bool
+    ensures { Propagates (Meets (R.meaning rules.now) (R.constraint_count rules.now) clauses.now) values.old values.new result }
 {
-    find_counted(alloc, rules, clauses, given, &[], &mut Statistics::new())
+    look_at_all(rules, clauses, values, hints) && propagate(rules, clauses, values, hints)
 }
 
-/// As `find`, with at least one of the goals yes. The goals are tried yes first; a goal past the
-/// last part is no, so no goals at all have no answer but None.
-pub fn find_any<R: Rules>(
+/// The search for an answer to a question, from values that follow from the system.
+pub(crate) fn answer<R: Rules>(
     alloc: Global,
     rules: &R,
-    clauses: &Clauses,
-    given: &[Option<bool>],
-    goals: &[usize],
-) -> Result<Option<Sequence<bool>>, OutOfMemory>
-    ensures found { IfOk result (λ answer. IfSome answer (λ found.
-        IsSolution (MeetsWithGoal (Meets (R.meaning rules.now) (R.constraint_count rules.now) clauses.now) goals.now) given.now found)) }
-    ensures none { IfOk result (λ answer. IfNone answer
-        (NoneAgrees (MeetsWithGoal (Meets (R.meaning rules.now) (R.constraint_count rules.now) clauses.now) goals.now) given.now)) }
-{
-    let alternatives = clauses.with_goals(alloc, goals)?;
-    find_counted(
-        alloc,
-        rules,
-        &alternatives,
-        given,
-        goals,
-        &mut Statistics::new(),
-    )
-}
-
-/// As `find`, with the parts that are tried yes first, and a count of the work.
-pub fn find_counted<R: Rules>(
-    alloc: Global,
-    rules: &R,
-    clauses: &Clauses,
-    given: &[Option<bool>],
-    tried_yes: &[usize],
-    statistics: &mut Statistics,
-) -> Result<Option<Sequence<bool>>, OutOfMemory>
-    ensures found { IfOk result (λ answer. IfSome answer (λ found.
-        IsSolution (Meets (R.meaning rules.now) (R.constraint_count rules.now) clauses.now) given.now found)) }
-    ensures none { IfOk result (λ answer. IfNone answer
-        (NoneAgrees (Meets (R.meaning rules.now) (R.constraint_count rules.now) clauses.now) given.now)) }
-{
-    let mut values = Values::new(alloc, given)?;
-    let mut hints = Hints::new(alloc, clauses, given.len(), rules.watched(), tried_yes)?;
-    let found = start(alloc, rules, clauses, &mut values, &mut hints)?;
-    *statistics = hints.statistics;
-    if found {
-        Ok(Some(values.fill(alloc)?))
-    } else {
-        Ok(None)
-    }
-}
-
-// The search from values that nothing was propagated from.
-fn start<R: Rules>(
-    alloc: Global,
-    rules: &R,
-    clauses: &Clauses,
+    clauses: &AllClauses<'_>,
+    claims: &[Literal],
     values: &mut Values,
     hints: &mut Hints,
 ) -> Result<bool, OutOfMemory>
-    ensures { IfOk result (Searches (Meets (R.meaning rules.now) (R.constraint_count rules.now) clauses.now) values.old values.new) }
+    ensures { IfOk result (Searches (MeetsClaims (Meets (R.meaning rules.now) (R.constraint_count rules.now) clauses.now) claims.now) values.old values.new) }
 {
-    if look_at_all(rules, clauses, values, hints) {
+    if put_claims(claims, values) && look_at_question(clauses, values, hints) {
         solve(alloc, rules, clauses, values, hints)
     } else {
         Ok(false)
@@ -104,21 +50,21 @@ fn start<R: Rules>(
 fn solve<R: Rules>(
     alloc: Global,
     rules: &R,
-    clauses: &Clauses,
+    clauses: &AllClauses<'_>,
     values: &mut Values,
     hints: &mut Hints,
 ) -> Result<bool, OutOfMemory>
     ensures { IfOk result (Searches (Meets (R.meaning rules.now) (R.constraint_count rules.now) clauses.now) values.old values.new) }
 {
     'decisions: while propagate(rules, clauses, values, hints) {
-        let part = match decide(rules, clauses, values, hints) {
+        let part = match decide(alloc, rules, clauses, values, hints)? {
             Look::Fails => return Ok(false),
             Look::Holds => return Ok(true),
             Look::Needs(part) => part,
         };
         let saved = values.save(alloc)?;
         let mark = hints.waiting.mark();
-        let value = hints.first_value(part);
+        let value = hints.is_goal(part);
         hints.count_decision();
         values.put(part, value);
         if solve(alloc, rules, clauses, values, hints)? {

@@ -1,7 +1,7 @@
 ghost use Rattle.std.specs.Prelude.{◌≡◌, ◌<◌, true};
 ghost use Rattle.plank_search.specs.Assignments.{IsOpen};
-ghost use Rattle.plank_search.specs.Meanings.{clause_holds};
-ghost use Rattle.plank_search.specs.Answers.{Propagates, Steps, Probes, Stands};
+ghost use Rattle.plank_search.specs.Meanings.{literal_holds, clause_holds, claims_hold};
+ghost use Rattle.plank_search.specs.Answers.{Propagates, Steps, Probes, Stands, Puts};
 
 use crate::clauses::{Clauses, Literal};
 use crate::hints::Hints;
@@ -171,5 +171,29 @@ pub(crate) fn unit(clause: &[Literal], values: &mut Values, hints: &mut Hints) -
             true
         }
         Standing::Kept | Standing::Loose(_) => true,
+    }
+}
+
+/// Puts the claims of a question; false where one is against the values or against another claim.
+pub(crate) fn put_claims(claims: &[Literal], values: &mut Values) -> bool
+    ensures { Puts (λ full. claims_hold full claims.now ≡ true) values.old values.new result }
+{
+    for claim in claims {
+        if !put_claim(*claim, values) {
+            return false;
+        }
+    }
+    true
+}
+
+fn put_claim(claim: Literal, values: &mut Values) -> bool
+    ensures { Puts (λ full. literal_holds full claim ≡ true) values.old values.new result }
+{
+    match values.get(claim.part) {
+        Some(value) => value == claim.value,
+        None => {
+            values.put(claim.part, claim.value);
+            true
+        }
     }
 }

@@ -5,7 +5,8 @@ ghost use Rattle.plank_search.specs.Meanings.{MeetsRules};
 ghost use Rattle.plank_search.specs.ExampleOrder.{order_row};
 
 use super::*;
-use plank_base::{OutOfMemory, Sequence};
+use plank_base::OutOfMemory;
+use sqlite_items::Items;
 use std::alloc::Global;
 
 // The numbers from `first` on, by steps.
@@ -14,14 +15,14 @@ fn spaced(
     first: usize,
     step: usize,
     count: usize,
-) -> Result<Sequence<usize>, OutOfMemory> {
+) -> Result<Items<usize>, OutOfMemory> {
     let mut parts = Vec::with_capacity(alloc, count)?;
     let mut part = first;
     for _ in 0..count {
         parts.push(part)?;
         part = part.saturating_add(step);
     }
-    Ok(Sequence::from_vec(parts))
+    Ok(Items::from_vec(parts))
 }
 
 // Each pigeon is in a hole, and no hole has two.
@@ -171,7 +172,7 @@ fn follow_below(row: usize, values: &mut Values) -> bool
 }
 
 // The order of the terms that are given, with no term below itself.
-fn order(alloc: Global, pairs: &[(usize, usize)]) -> Result<Option<Sequence<bool>>, OutOfMemory> {
+fn order(alloc: Global, pairs: &[(usize, usize)]) -> Result<Option<Items<bool>>, OutOfMemory> {
     let mut given = vec![in alloc; None; 144]?;
     for term in spaced(alloc, 0, 13, 12)?.as_slice() {
         set(&mut given, *term, false);
@@ -186,7 +187,7 @@ fn order(alloc: Global, pairs: &[(usize, usize)]) -> Result<Option<Sequence<bool
     find(alloc, &StrictOrder, &Clauses::new(alloc), given.as_slice())
 }
 
-fn value_of(found: &Option<Sequence<bool>>, part: usize) -> Option<bool> {
+fn value_of(found: &Option<Items<bool>>, part: usize) -> Option<bool> {
     match found {
         Some(full) => full.get(part).copied(),
         None => None,
@@ -302,5 +303,36 @@ fn some_goal_is_yes(rt: HostRuntime) -> Result<(), OutOfMemory> {
     assert!(rt; find_any(alloc, &NoRules, &clauses, &open, &[0])?.is_none());
     assert!(rt; find_any(alloc, &NoRules, &clauses, &open, &[3])?.is_none());
     assert!(rt; find_any(alloc, &NoRules, &clauses, &open, &[])?.is_none());
+    Ok(())
+}
+
+#[test]
+fn questions_of_a_session_leave_nothing_for_the_next(rt: HostRuntime) -> Result<(), OutOfMemory> {
+    let alloc = rt.alloc();
+    let cycle = [(0, 1), (1, 2), (2, 3), (3, 4), (4, 0)];
+    let counts = colours(alloc, 3)?;
+    let clauses = edges(alloc, 3, &cycle)?;
+    let given = vec![in alloc; None; 15]?;
+    let mut session = Session::new(alloc, &counts, &clauses, given.as_slice())?;
+    let claim = |part: usize| Literal { part, value: true };
+    let neighbors_alike = [claim(0), claim(3)];
+    let two_apart_alike = [claim(0), claim(6)];
+    for _ in 0..2 {
+        assert!(rt; session.find(alloc, &neighbors_alike)?.is_none());
+        let found = session.find(alloc, &two_apart_alike)?;
+        assert_eq!(rt; value_of(&found, 6), Some(true));
+        assert!(rt;
+            session
+                .find_any(alloc, &two_apart_alike, &[3, 10])?
+                .is_some()
+        );
+        assert!(rt;
+            session
+                .find_any(alloc, &two_apart_alike, &[3, 9])?
+                .is_none()
+        );
+        assert!(rt; session.find_any(alloc, &[], &[])?.is_none());
+        assert!(rt; session.find(alloc, &[])?.is_some());
+    }
     Ok(())
 }

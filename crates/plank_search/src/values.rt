@@ -1,7 +1,8 @@
 ghost use Rattle.std.specs.Prelude.{◌≡◌, ◌+◌, Bool, length, None, IfOk, slice_set};
 ghost use Rattle.plank_search.specs.Assignments.{value_at, IsOpen, with_value, filled};
 
-use plank_base::{OutOfMemory, Sequence};
+use plank_base::OutOfMemory;
+use sqlite_items::Items;
 use std::alloc::Global;
 use std::marker::Model;
 
@@ -122,14 +123,14 @@ impl Values {
     }
 
     /// The full assignment in which each open part is no.
-    pub(crate) fn fill(&self, alloc: Global) -> Result<Sequence<bool>, OutOfMemory>
+    pub(crate) fn fill(&self, alloc: Global) -> Result<Items<bool>, OutOfMemory>
         ensures { IfOk result (λ full. full ≡ filled self.now) }
     {
         let mut full = Vec::with_capacity(alloc, self.cells.len())?;
         for value in self.cells.as_slice() {
             full.push(value.unwrap_or(false))?;
         }
-        Ok(Sequence::from_vec(full))
+        Ok(Items::from_vec(full))
     }
 }
 

@@ -6,6 +6,7 @@ use Rattle.std.specs.FinMap.{get, insert, empty, get-empty}
 use Rattle.std.specs.Ordering.{nat_cmp}
 use Rattle.std.proofs.lemmas.Bool.{and_parts, ltb-true}
 use Rattle.std.proofs.lemmas.Option.{none-some, same_Some, option_and_then_some}
+use Rattle.plank_base.specs.declared.limits.TheConstants.{VARIABLES_LIMIT}
 use Rattle.plank_base.specs.declared.keys.NodeId.{NodeId}
 use Rattle.plank_base.specs.declared.keys.ThreadId.{ThreadId}
 use Rattle.plank_prog.specs.declared.headers.Header.{Header}
@@ -31,7 +32,8 @@ use Rattle.plank_sem.specs.Reads.{value_of, tests_value}
 use Rattle.plank_sem.specs.Actions.{After, gone_to, bound, changed, changed_by, written, written_in, taken_yes, taken_no, block_run, copied, allocated}
 use Rattle.plank_sem.specs.Steps.{stepped, refused, begun, went_on, ended, performed, action_of, gone_on, acted, next}
 use Rattle.plank_sem.specs.Fits.{AllNamed, CallFits, Fits}
-use Rattle.plank_sem.proofs.Lists.{passes_at, found_after_set, found_after_push}
+use Rattle.plank_prog.proofs.HeaderFacts.{list_all_at}
+use Rattle.plank_sem.proofs.Lists.{found_after_set, found_after_push}
 use Rattle.plank_sem.proofs.CallMaps.{found_after_insert, found_after_remove}
 use Rattle.plank_sem.proofs.NamedNodes.{all_named_set, LeadsAlong, value_in, bound_in}
 use Rattle.plank_sem.proofs.LawfulActions.{StandsAt, stands_at, block_yes, block_no}
@@ -220,7 +222,7 @@ begun_fits methods w thread m key method fits called some = record {
   calls = λ t call at.
       elim (found_after_insert w.calls thread.0 (fresh_call m key) t call at) [
         | inl h ↦ subst (CallFits methods (length w.heap.nodes)) h.1
-            (record { method = method; called = called; location = some; variables = none_named (λ x. x < length w.heap.nodes) 6 })
+            (record { method = method; called = called; location = some; variables = none_named (λ x. x < length w.heap.nodes) VARIABLES_LIMIT })
         | inr h ↦ fits.calls t call h.1
       ];
 }
@@ -237,7 +239,7 @@ start_fits methods heap calls closed none = record {
 has_location : (h : Header) (methods : List Method) (m : ℕ) (method : Method) → are_lawful_methods h methods ≡ true → slice_get methods m ≡ Some method
     → 0 < length method.locations
 has_location h methods m method lawful called =
-    let one : is_lawful_method h method ≡ true = passes_at (is_lawful_method h) methods m method (and_parts _ _ lawful).1 called in
+    let one : is_lawful_method h method ≡ true = list_all_at (is_lawful_method h) methods m method (and_parts _ _ lawful).1 called in
     ltb-true 0 (length method.locations) (and_parts _ _ (and_parts _ _ one).0).1
 
 module _ (h : Header) (methods : List Method) (lawful : are_lawful_methods h methods ≡ true) (w : WorldState) (thread : ThreadId) (fits : Fits methods w) where
@@ -255,7 +257,7 @@ module _ (h : Header) (methods : List Method) (lawful : are_lawful_methods h met
       subst (Fits methods) (world_of _ event _ after e) (went_on_fits methods w thread a fits (goes a refl))
 
   performed_kept : (call : Call) (action : Action) (event : Option Event) (after : WorldState) → CallFits methods (length w.heap.nodes) call
-      → StandsAt h methods call action → performed w thread call action ≡ stepped event after → Fits methods after
+      → StandsAt h methods call action → performed methods w thread call action ≡ stepped event after → Fits methods after
   performed_kept call (Action.Block b) event after one here e =
       went_on_kept (block_run w.heap thread call b) event after (λ a is. block_goes_on h methods w.heap thread call fits.heap one b a here is) e
   performed_kept call (Action.Copy to from next) event after one here e =
@@ -268,7 +270,7 @@ module _ (h : Header) (methods : List Method) (lawful : are_lawful_methods h met
       subst (Fits methods) (world_of _ event _ after e) (ended_fits methods w thread fits)
 
   at_kept : (call : Call) (action : Option Action) (event : Option Event) (after : WorldState) → CallFits methods (length w.heap.nodes) call
-      → action_of methods call ≡ action → option_map_or (performed w thread call) action refused ≡ stepped event after → Fits methods after
+      → action_of methods call ≡ action → option_map_or (performed methods w thread call) action refused ≡ stepped event after → Fits methods after
   at_kept call None event after one at e = absurd (cc)
   at_kept call (Some action) event after one at e = performed_kept call action event after one (stands_at h methods call action lawful at) e
 

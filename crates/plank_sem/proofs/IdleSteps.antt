@@ -30,7 +30,7 @@ use Rattle.plank_sem.specs.Actions.{After, gone_to, bound, written, taken_yes, t
 use Rattle.plank_sem.specs.Steps.{stepped, refused, begun, went_on, performed, action_of, gone_on, acted, next}
 use Rattle.plank_sem.specs.Kept.{Kept, owners_written, owners_after, kept_performed, kept_gone_on, kept_acted, GhostWorld, ghost_after}
 use Rattle.plank_sem.specs.Facts.{acts_on_writes, comes_to_writes, IsIdle}
-use Rattle.plank_sem.proofs.Lists.{push_found}
+use Rattle.plank_hist.proofs.Joined.{slice_get-append_left}
 use Rattle.plank_sem.proofs.FitsKept.{world_of}
 use Rattle.plank_sem.proofs.SoundHeaps.{next_points}
 
@@ -83,8 +83,8 @@ module _ (heap : Heap) (owners : List (Option ℕ)) (thread : ThreadId) (call : 
 
   allocated_extended : (to next : ℕ) → Extended heap owners (allocated heap call to next).heap (owners ++ Some thread.0 ∷ [])
   allocated_extended to next = record {
-    nodes = λ i x at. push_found heap.nodes (fresh_node call.key ∷ []) i x at;
-    owners_stay = λ i x at. push_found owners (Some thread.0 ∷ []) i x at;
+    nodes = λ i x at. slice_get-append_left heap.nodes (fresh_node call.key ∷ []) i x at;
+    owners_stay = λ i x at. slice_get-append_left owners (Some thread.0 ∷ []) i x at;
     same_root = refl;
   }
 
@@ -97,7 +97,7 @@ module _ (h : Header) (methods : List Method) (w : WorldState) (kept : Kept) (th
   went_on_extended (Some a) later event after one e =
       subst (λ (v : WorldState). Extended w.heap kept.owners v.heap later) (world_of _ event _ after e) (one a refl)
 
-  performed_extended : (call : Call) (action : Action) (event : Option Event) (after : WorldState) → is_site action ≡ false → performed w thread call action ≡ stepped event after
+  performed_extended : (call : Call) (action : Action) (event : Option Event) (after : WorldState) → is_site action ≡ false → performed methods w thread call action ≡ stepped event after
       → Extended w.heap kept.owners after.heap (owners_after w.heap thread call action kept.owners)
   performed_extended call (Action.Block b) event after none e =
       went_on_extended (block_run w.heap thread call b) (owners_after w.heap thread call (Action.Block b) kept.owners) event after
@@ -119,7 +119,7 @@ module _ (h : Header) (methods : List Method) (w : WorldState) (kept : Kept) (th
   begun_extended m key (Some call) method event after e = absurd (cc)
 
   at_extended : (call : Call) (action : Option Action) (event : Option Event) (after : WorldState) → option_map_or (λ a. is_site a) action false ≡ false
-      → option_map_or (performed w thread call) action refused ≡ stepped event after
+      → option_map_or (performed methods w thread call) action refused ≡ stepped event after
       → Extended w.heap kept.owners after.heap (option_map_or (λ a. kept_performed h w.heap after.heap thread call a kept) action kept).owners
   at_extended call None event after none e = absurd (cc)
   at_extended call (Some action) event after none e = performed_extended call action event after none e

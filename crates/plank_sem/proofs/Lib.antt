@@ -11,3 +11,12 @@ pub mod GhostRuns
 pub mod QuietRuns
 pub mod IdleSteps
 pub mod Moments
+pub mod StepCases
+pub mod RunInduction
+pub mod Sizes
+pub mod NumberedNodes
+pub mod CallMoments
+pub mod IdleSets
+pub mod Updates
+pub mod SpentCalls
+pub mod Returns

@@ -6,15 +6,12 @@ use Rattle.std.specs.Option.{option_flatten}
 use Rattle.std.proofs.lemmas.Bool.{and_parts}
 use Rattle.std.proofs.lemmas.Option.{none-some, slice_get_within, get_or_from_slice_get}
 use Rattle.std.proofs.lemmas.List.Elements.{All-nil, All-cons, All-get_or}
+pub use Rattle.plank_prog.proofs.HeaderFacts.{list_all_at as passes_at}
+pub use Rattle.plank_hist.proofs.Joined.{slice_get-append_left as push_found}
 
 -- an element that is found has what all have
 pub found_of_all : {X : Type 0} (P : X → Type 0) (xs : List X) (i : ℕ) (x : X) → All P xs → slice_get xs i ≡ Some x → P x
 found_of_all P xs i x all at = subst P (get_or_from_slice_get xs i x x at) (All-get_or P xs i x (slice_get_within xs i x at) all)
-
-pub passes_at : {X : Type 0} (p : X → Bool) (xs : List X) (i : ℕ) (x : X) → list_all p xs ≡ true → slice_get xs i ≡ Some x → p x ≡ true
-passes_at p [] i x all at = absurd (none-some x at)
-passes_at p (y ∷ ys) zero x all at = let same : y ≡ x = cc in subst (λ z. p z ≡ true) same (and_parts (p y) (list_all p ys) all).0
-passes_at p (y ∷ ys) (suc i) x all at = passes_at p ys i x (and_parts (p y) (list_all p ys) all).1 at
 
 pub All-from_list_all : {X : Type 0} (p : X → Bool) (P : X → Type 0) → ((x : X) → p x ≡ true → P x) → (xs : List X) → list_all p xs ≡ true → All P xs
 All-from_list_all p P one [] all = All-nil P
@@ -54,11 +51,6 @@ found_after_push [] y (suc k) x at = absurd (none-some x at)
 found_after_push (z ∷ zs) y zero x at = inl at
 found_after_push (z ∷ zs) y (suc k) x at =
     elim (found_after_push zs y k x at) [ inl h ↦ inl h | inr h ↦ inr (ap suc h.0, h.1) ]
-
-pub push_found : {X : Type 0} (xs ys : List X) (k : ℕ) (x : X) → slice_get xs k ≡ Some x → slice_get (xs ++ ys) k ≡ Some x
-push_found [] ys k x at = absurd (none-some x at)
-push_found (z ∷ zs) ys zero x at = at
-push_found (z ∷ zs) ys (suc k) x at = push_found zs ys k x at
 
 pub push_last : {X : Type 0} (xs : List X) (y : X) → slice_get (xs ++ y ∷ []) (length xs) ≡ Some y
 push_last [] y = refl

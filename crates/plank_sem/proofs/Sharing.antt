@@ -12,7 +12,8 @@ use Rattle.plank_sem.specs.declared.calls.Call.{Call}
 use Rattle.plank_sem.specs.Reads.{value_of}
 use Rattle.plank_sem.specs.Actions.{changed, changed_by}
 use Rattle.plank_sem.specs.Kept.{IsShared, IsOwn, shared_from, shared_by, shared_by_all}
-use Rattle.plank_sem.proofs.Lists.{found_after_set, set_found, set_elsewhere, push_found}
+use Rattle.plank_hist.proofs.Joined.{slice_get-append_left}
+use Rattle.plank_sem.proofs.Lists.{found_after_set, set_found, set_elsewhere}
 
 -- owners after a step: shared stays shared, and a thread's own stays or becomes shared
 pub record Moves (before after : List (Option ℕ)) : Type 0 where
@@ -120,6 +121,6 @@ all_written_apart heap call thread x (w ∷ ws) owners node apart =
 
 pub push_moves : (owners : List (Option ℕ)) (o : Option ℕ) → Moves owners (owners ++ o ∷ [])
 push_moves owners o = record {
-  shared = λ x s. push_found owners (o ∷ []) x None s;
-  own = λ x t p. inl (push_found owners (o ∷ []) x (Some t) p);
+  shared = λ x s. slice_get-append_left owners (o ∷ []) x None s;
+  own = λ x t p. inl (slice_get-append_left owners (o ∷ []) x (Some t) p);
 }

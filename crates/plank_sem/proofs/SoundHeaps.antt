@@ -20,7 +20,8 @@ use Rattle.plank_sem.specs.declared.calls.Call.{Call}
 use Rattle.plank_sem.specs.Actions.{changed, changed_by, written, written_in}
 use Rattle.plank_sem.specs.Kept.{IsShared, IsOwn, shared_by_all, owners_written}
 use Rattle.plank_sem.specs.Facts.{KeysStay, IsUsable, PointsTo}
-use Rattle.plank_sem.proofs.Lists.{found_after_set, set_found, set_elsewhere, found_after_push, push_found}
+use Rattle.plank_hist.proofs.Joined.{slice_get-append_left}
+use Rattle.plank_sem.proofs.Lists.{found_after_set, set_found, set_elsewhere, found_after_push}
 use Rattle.plank_sem.proofs.NamedNodes.{LeadsAlong}
 use Rattle.plank_sem.proofs.Sharing.{Moves, moves_none, by_all_shares, PointsApart, all_written_apart, push_moves}
 
@@ -148,7 +149,7 @@ no_pointer key (suc (suc f)) to at = none-some (Some to) at
 pub fresh_moves : (h : Header) (owners : List (Option ℕ)) (heap : Heap) (key : ℤ) (thread : ℕ) → IsClosed heap → HeapSound h owners heap
     → HeapMoves h owners (owners ++ Some thread ∷ []) heap (with_fresh_node heap key)
 fresh_moves h owners heap key thread closed sound =
-    let keys : KeysStay heap (with_fresh_node heap key) = λ x node found. (node, push_found heap.nodes (fresh_node key ∷ []) x node found, refl) in
+    let keys : KeysStay heap (with_fresh_node heap key) = λ x node found. (node, slice_get-append_left heap.nodes (fresh_node key ∷ []) x node found, refl) in
     -- an owner of a node that was there before is an old one
     let old : (x t : ℕ) → x < length heap.nodes → IsOwn (owners ++ Some thread ∷ []) x t → IsOwn owners x t =
     λ x t below own. elim (found_after_push owners (Some thread) x (Some t) own) [ inl was ↦ was | inr e ↦ absurd (let same = e.0 in let owned = sound.owned in omega arith) ] in

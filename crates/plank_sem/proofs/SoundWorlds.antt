@@ -1,25 +1,25 @@
 -- Every ghost world of a run is sound, and what stays from one to a later one.
-use Rattle.std.proofs.Common.{◌≡◌, ◌≢◌, ℕ, zero, suc, ◌<◌, ◌≤◌, ℤ, Bool, true, false, List, [], ◌∷◌, ◌++◌, length, map, Option, Some, None, refl, sym, ap, ◌∙◌, subst, inl, inr, arith}
+use Rattle.std.proofs.Common.{◌≡◌, ◌≢◌, ℕ, zero, suc, ◌≤◌, ℤ, Bool, true, false, List, [], ◌∷◌, ◌++◌, length, map, Option, Some, None, refl, sym, ap, ◌∙◌, subst, inl, inr, arith}
 use Rattle.std.proofs.lemmas.List.{length-map}
 use Rattle.std.specs.Prelude.{slice_get, option_map, if◌then◌else◌}
-use Rattle.std.specs.Option.{option_map_or, option_flatten}
+use Rattle.std.specs.Option.{option_map_or}
 use Rattle.std.specs.FinMap.{get, insert, get-empty}
 use Rattle.std.specs.Ordering.{nat_cmp}
-use Rattle.std.proofs.lemmas.Bool.{and_parts, eq-eqb, ne_eqb, ltb-true}
-use Rattle.std.proofs.lemmas.Option.{none-some, same_Some, slice_get-map, option_and_then_some}
+use Rattle.std.proofs.lemmas.Bool.{eq-eqb, ne_eqb}
+use Rattle.std.proofs.lemmas.Option.{none-some, same_Some, option_and_then_some}
+use Rattle.plank_base.specs.declared.limits.TheConstants.{VARIABLES_LIMIT}
 use Rattle.plank_base.specs.declared.keys.NodeId.{NodeId}
 use Rattle.plank_base.specs.declared.keys.ThreadId.{ThreadId}
 use Rattle.plank_prog.specs.declared.headers.Header.{Header}
-use Rattle.plank_prog.specs.declared.headers.StartNode.{StartNode}
 use Rattle.plank_prog.specs.declared.blocks.Value.{Value}
 use Rattle.plank_prog.specs.declared.blocks.Block.{Block}
 use Rattle.plank_prog.specs.declared.methods.Action.{Action}
 use Rattle.plank_prog.specs.declared.methods.Method.{Method}
-use Rattle.plank_prog.specs.Headers.{is_lawful_header, have_lawful_nodes, is_lawful_start_node, leads_within}
+use Rattle.plank_prog.specs.Headers.{is_lawful_header}
 use Rattle.plank_prog.specs.Methods.{are_lawful_methods}
 use Rattle.plank_heap.specs.declared.nodes.Node.{Node}
 use Rattle.plank_heap.specs.declared.heaps.Heap.{Heap}
-use Rattle.plank_heap.specs.Heaps.{IsClosed, LeadsWithin, start_heap, start_node, start_pointer}
+use Rattle.plank_heap.specs.Heaps.{IsClosed, start_heap}
 use Rattle.plank_hist.specs.declared.events.Event.{Event}
 use Rattle.plank_sem.specs.declared.calls.Call.{Call}
 use Rattle.plank_sem.specs.declared.steps.Act.{Act}
@@ -32,7 +32,8 @@ use Rattle.plank_sem.specs.Steps.{stepped, refused, begun, went_on, performed, a
 use Rattle.plank_sem.specs.Fits.{AllNamed, Fits}
 use Rattle.plank_sem.specs.Kept.{IsOwn, updated, owners_written, owners_after, kept_invoked, kept_performed, kept_gone_on, kept_acted, GhostWorld, ghost_start, ghost_after, GhostRun, ghost_begins, ghost_goes_on}
 use Rattle.plank_sem.specs.Facts.{IsUsable, IsSound, Stays}
-use Rattle.plank_sem.proofs.Lists.{passes_at, push_last, flattened, mapped}
+use Rattle.plank_heap.proofs.Starts.{start_closed}
+use Rattle.plank_sem.proofs.Lists.{push_last}
 use Rattle.plank_sem.proofs.CallMaps.{found_after_insert, found_after_remove}
 use Rattle.plank_sem.proofs.NamedNodes.{all_named_set, value_in, bound_in}
 use Rattle.plank_sem.proofs.FitsKept.{fits_kept, none_named, world_of}
@@ -165,7 +166,7 @@ module _ (h : Header) (methods : List Method) (before : GhostWorld) (good : Good
         variables = λ t found at.
             elim (found_after_insert before.world.calls thread.0 (fresh_call m key) t found at) [
               | inl same ↦ subst (λ (c : Call). AllNamed (IsUsable before.kept.owners ((kept_invoked thread before.kept).allocated t) t) c.variables) same.1
-                  (none_named (IsUsable before.kept.owners ((kept_invoked thread before.kept).allocated t) t) 6)
+                  (none_named (IsUsable before.kept.owners ((kept_invoked thread before.kept).allocated t) t) VARIABLES_LIMIT)
               | inr other ↦
                   subst (λ nodes. AllNamed (IsUsable before.kept.owners nodes t) found.variables) (sym (at_other before.kept.allocated thread.0 [] t other.0)) (good.variables t found other.1)
             ];
@@ -184,7 +185,7 @@ module _ (h : Header) (methods : List Method) (before : GhostWorld) (good : Good
       (world_of _ event _ after e) (moved thread call a owners more (changes a.heap) (moves a refl))
 
   performed_goes : (thread : ThreadId) (call : Call) (action : Action) (event : Option Event) (after : WorldState) → get before.world.calls thread.0 ≡ Some call
-      → performed before.world thread call action ≡ stepped event after
+      → performed methods before.world thread call action ≡ stepped event after
       → Goes h methods before (record { world = after; kept = kept_performed h before.world.heap after.heap thread call action before.kept })
   performed_goes thread call (Action.Block b) event after at e =
       went_on_goes thread call (block_run before.world.heap thread call b) (owners_after before.world.heap thread call (Action.Block b) before.kept.owners) (before.kept.allocated thread.0)
@@ -211,7 +212,7 @@ module _ (h : Header) (methods : List Method) (before : GhostWorld) (good : Good
       })
 
   at_goes : (thread : ThreadId) (call : Call) (action : Option Action) (event : Option Event) (after : WorldState) → get before.world.calls thread.0 ≡ Some call
-      → option_map_or (performed before.world thread call) action refused ≡ stepped event after
+      → option_map_or (performed methods before.world thread call) action refused ≡ stepped event after
       → Goes h methods before (record { world = after; kept = option_map_or (λ a. kept_performed h before.world.heap after.heap thread call a before.kept) action before.kept })
   at_goes thread call None event after at e = absurd (cc)
   at_goes thread call (Some action) event after at e = performed_goes thread call action event after at e
@@ -238,31 +239,6 @@ module _ (h : Header) (methods : List Method) (before : GhostWorld) (good : Good
       record { fits = fits_kept h methods lawful before.world choice event after good.fits e; heap = goes.heap; variables = goes.variables }
 
 -- ---- the start
-
-start_leads : (h : Header) (n : StartNode) → is_lawful_start_node h n ≡ true → (f : ℕ) (to : NodeId) → start_pointer n f ≡ Some to → to.0 < length h.nodes
-start_leads h n lawful f to at =
-    let found = mapped (λ (k : ℕ). let x : NodeId = record { 0 = k } in x) (option_flatten (slice_get n.pointers f)) to at in
-    let within = passes_at (leads_within (length h.nodes)) n.pointers f (Some found.0) (and_parts _ _ lawful).1 (flattened (slice_get n.pointers f) found.0 found.1) in
-    subst (λ (x : NodeId). x.0 < length h.nodes) found.2 (ltb-true found.0 (length h.nodes) within)
-
-start_node_leads : (h : Header) (n : StartNode) → is_lawful_start_node h n ≡ true → LeadsWithin (length h.nodes) (start_node n)
-start_node_leads h n lawful zero to at = start_leads h n lawful 0 to (same_Some (start_pointer n 0) (Some to) at)
-start_node_leads h n lawful (suc zero) to at = start_leads h n lawful 1 to (same_Some (start_pointer n 1) (Some to) at)
-start_node_leads h n lawful (suc (suc f)) to at = absurd (none-some (Some to) at)
-
-pub start_closed : (h : Header) → is_lawful_header h ≡ true → IsClosed (start_heap h)
-start_closed h lawful =
-    let nodes : have_lawful_nodes h ≡ true = (and_parts _ _ (and_parts _ _ lawful).0).1 in
-    let parts = and_parts _ _ nodes in
-    let same = length-map h.nodes start_node in
-    record {
-      root = subst (λ n. h.root < n) (sym same) (ltb-true h.root (length h.nodes) parts.0);
-      pointers = λ x node found f to leads.
-          let at = mapped start_node (slice_get h.nodes x) node (sym (slice_get-map start_node h.nodes x) ∙ found) in
-          subst (λ n. to.0 < n) (sym same)
-          (start_node_leads h at.0 (passes_at (is_lawful_start_node h) h.nodes x at.0 parts.1 at.1) f to
-          (subst (λ (n : Node). slice_get n.pointers f ≡ Some (Some to)) (sym at.2) leads));
-    }
 
 -- the start nodes are shared
 no_owner : (nodes : List Node) (x t : ℕ) → IsOwn (map (λ (y : Node). None) nodes) x t → ⊥

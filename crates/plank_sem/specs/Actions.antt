@@ -3,6 +3,7 @@
 use Rattle.std.specs.Prelude.{ℕ, ◌<◌, List, [], ◌∷◌, length, slice_get, slice_set, Option, Some, None, option_map, option_and_then, if◌then◌else◌}
 use Rattle.plank_base.specs.declared.keys.NodeId.{NodeId}
 use Rattle.plank_base.specs.declared.keys.ThreadId.{ThreadId}
+use Rattle.plank_base.specs.declared.limits.TheConstants.{FLAGS_LIMIT, POINTERS_LIMIT}
 use Rattle.plank_prog.specs.Blocks.{written_node}
 use Rattle.plank_prog.specs.declared.blocks.Value.{Value}
 use Rattle.plank_prog.specs.declared.blocks.Bind.{Bind}
@@ -40,8 +41,8 @@ changed heap thread call (Write.FreeLock r) x = with_lock x None
 
 -- a node has room for the field of a write
 abbrev pub HasRoom : Write → Type 0
-HasRoom (Write.Flag r flag to) = flag < 8
-HasRoom (Write.Pointer r pointer to) = pointer < 2
+HasRoom (Write.Flag r flag to) = flag < FLAGS_LIMIT
+HasRoom (Write.Pointer r pointer to) = pointer < POINTERS_LIMIT
 HasRoom (Write.TakeLock r) = Unit {0}
 HasRoom (Write.FreeLock r) = Unit {0}
 

@@ -1,22 +1,28 @@
 -- Facts of every world of every run, by the steps alone: what nodes are named, pointed to and shared, and what never changes.
 use Rattle.std.specs.Option.{option_map_or}
+use Rattle.std.specs.Prelude.{◌≡◌, ◌⊎◌, ◌↔◌, ℕ, ◌<◌, ℤ, Bool, true, false, List, length, slice_get, Option, Some, None}
+use Rattle.std.specs.FinMap.{get}
+use Rattle.plank_base.specs.declared.limits.TheConstants.{POINTERS_LIMIT, VARIABLES_LIMIT}
+use Rattle.plank_base.specs.declared.keys.Key.{Key}
+use Rattle.plank_base.specs.declared.keys.NodeId.{NodeId}
+use Rattle.plank_base.specs.declared.keys.ThreadId.{ThreadId}
 use Rattle.plank_prog.specs.declared.methods.Method.{Method}
 use Rattle.plank_prog.specs.Methods.{is_site}
-use Rattle.plank_sem.specs.declared.steps.Act.{Act}
-use Rattle.plank_sem.specs.declared.steps.Choice.{Choice}
-use Rattle.plank_sem.specs.Worlds.{WorldState}
-use Rattle.plank_sem.specs.Steps.{action_of}
-use Rattle.std.specs.Prelude.{◌≡◌, ◌⊎◌, ◌↔◌, ℕ, ◌<◌, ℤ, Bool, false, List, length, slice_get, Option, Some, None}
-use Rattle.std.specs.FinMap.{get}
-use Rattle.plank_base.specs.declared.keys.NodeId.{NodeId}
 use Rattle.plank_prog.specs.declared.headers.Header.{Header}
+use Rattle.plank_prog.specs.declared.blocks.Block.{Block}
+use Rattle.plank_prog.specs.declared.methods.Action.{Action}
 use Rattle.plank_heap.specs.declared.nodes.Node.{Node}
 use Rattle.plank_heap.specs.declared.heaps.Heap.{Heap}
 use Rattle.plank_heap.specs.Heaps.{IsClosed, start_heap}
 use Rattle.plank_heap.specs.Walks.{WalkVisits}
+use Rattle.plank_sem.specs.declared.steps.Act.{Act}
+use Rattle.plank_sem.specs.declared.steps.Choice.{Choice}
+use Rattle.plank_sem.specs.Worlds.{WorldState}
+use Rattle.plank_sem.specs.Steps.{action_of}
 use Rattle.plank_sem.specs.declared.calls.Call.{Call}
 use Rattle.plank_sem.specs.Fits.{AllNamed}
 use Rattle.plank_sem.specs.Kept.{GhostWorld, IsShared, IsOwn}
+use Rattle.plank_sem.specs.Reads.{tests_value}
 
 -- every node is still there, with its key
 abbrev pub KeysStay : Heap → Heap → Type 0
@@ -48,6 +54,18 @@ pub record IsSound (h : Header) (g : GhostWorld) : Type 0 where
   pub shared_leads : (x y : ℕ) → IsShared g.kept.owners x → PointsTo g.world.heap x y → IsShared g.kept.owners y
   pub visited_is_shared : (j : ℤ) (x : ℕ) → WalkVisits h g.world.heap j x → IsShared g.kept.owners x
 
+-- each node has room for its pointers, and each call for its variables
+pub record HasSizes (w : WorldState) : Type 0 where
+  pub nodes : (x : ℕ) (node : Node) → slice_get w.heap.nodes x ≡ Some node → length node.pointers ≡ POINTERS_LIMIT
+  pub calls : (thread : ℕ) (call : Call) → get w.calls thread ≡ Some call → length call.variables ≡ VARIABLES_LIMIT
+
+-- a node is of the start, or has a number as its key
+abbrev pub HasNumber : Header → ℕ → Node → Type 0
+HasNumber h x node = (x < length (start_heap h).nodes) ⊎ ((j : ℤ) × (node.key ≡ Key.Num j))
+
+abbrev pub AreNumbered : Header → GhostWorld → Type 0
+AreNumbered h g = (x : ℕ) (node : Node) → slice_get g.world.heap.nodes x ≡ Some node → HasNumber h x node
+
 -- what stays from an earlier world of a run to a later one
 pub record Stays (before after : GhostWorld) : Type 0 where
   pub same_root : after.world.heap.root ≡ before.world.heap.root
@@ -65,6 +83,15 @@ acts_on_writes methods (Some call) Act.Go = option_map_or (λ action. is_site ac
 -- whether a choice does
 abbrev pub comes_to_writes : List Method → WorldState → Choice → Bool
 comes_to_writes methods w choice = acts_on_writes methods (get w.calls choice.thread.0) choice.act
+
+-- the next step of the thread is a block that writes, and its tests are true
+pub record IsWriting (methods : List Method) (w : WorldState) (thread : ThreadId) : Type 0 where
+  pub call : Call
+  pub pending : get w.calls thread.0 ≡ Some call
+  pub block : Block
+  pub at : action_of methods call ≡ Some (Action.Block block)
+  pub writes : is_site (Action.Block block) ≡ true
+  pub passed : tests_value w.heap thread call block.tests ≡ Some true
 
 -- after such a step the nodes that were there are as they were, with their owners, and walks visit what they visited
 pub record IsIdle (h : Header) (before after : GhostWorld) : Type 0 where

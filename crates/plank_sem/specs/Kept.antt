@@ -21,7 +21,7 @@ use Rattle.plank_sem.specs.Worlds.{WorldState, start_world}
 use Rattle.plank_sem.specs.Reads.{value_of, tests_value}
 use Rattle.plank_sem.specs.Actions.{written_in}
 use Rattle.plank_sem.specs.Steps.{next, stepped, action_of}
-use Rattle.plank_sem.specs.Runs.{call_age}
+use Rattle.plank_sem.specs.CallMoments.{last_begun}
 
 pub record Kept : Type 0 where
   -- for each node None where it is shared, and else the thread that allocated it, whose own it is
@@ -137,11 +137,11 @@ pub data GhostRun (h : Header) (methods : List Method) : List Choice → List (O
   ghost_goes_on : {choices : List Choice} {told : List (Option Event)} {before : GhostWorld} {ghosts : List GhostWorld} → GhostRun h methods choices told (before ∷ ghosts) → (choice : Choice) (event : Option Event) (after : WorldState) → next methods before.world choice ≡ stepped event after → GhostRun h methods (choice ∷ choices) (event ∷ told) (ghost_after h methods before choice after ∷ before ∷ ghosts)
 
 -- the pending call of a thread has made a step that changed the set, at some key
-pub record IsSpent (h : Header) (thread : ℕ) (choices : List Choice) (told : List (Option Event)) (worlds : List WorldState) : Type 0 where
+pub record IsSpent (h : Header) (thread : ℕ) (choices : List Choice) (worlds : List WorldState) : Type 0 where
   -- the step was made so many steps ago, and after the invocation
   pub ago : ℕ
   pub age : ℕ
-  pub pending : call_age thread told ≡ Some age
+  pub begun : last_begun thread choices ≡ Some age
   pub later : ago < age
   pub choice : Choice
   pub chosen : slice_get choices ago ≡ Some choice
@@ -152,3 +152,8 @@ pub record IsSpent (h : Header) (thread : ℕ) (choices : List Choice) (told : L
   pub is : slice_get worlds ago ≡ Some after
   pub key : ℤ
   pub changed : differs h before.heap after.heap key ≡ true
+
+-- each step of a run changes the set at no key but that of a pending call of its thread
+abbrev pub TurnsOwnKeys : Header → List Choice → List GhostWorld → Type 0
+TurnsOwnKeys h choices ghosts = (i : ℕ) (choice : Choice) (before after : GhostWorld) → slice_get choices i ≡ Some choice → slice_get ghosts (suc i) ≡ Some before → slice_get ghosts i ≡ Some after
+    → (key : ℤ) → differs h before.world.heap after.world.heap key ≡ true → (call : Call) × (get before.world.calls choice.thread.0 ≡ Some call) × (key ≡ call.key)

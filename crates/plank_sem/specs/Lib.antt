@@ -4,6 +4,7 @@ pub mod Actions
 pub mod Steps
 pub mod Fits
 pub mod Runs
+pub mod CallMoments
 pub mod Kept
 pub mod Facts
 pub use Rattle.plank_hist.specs.Linearizability

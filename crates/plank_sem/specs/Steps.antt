@@ -3,8 +3,10 @@ use Rattle.std.specs.Prelude.{ℕ, ℤ, List, Option, Some, None, slice_get, opt
 use Rattle.std.specs.Option.{option_map_or}
 use Rattle.std.specs.FinMap.{get, insert, remove}
 use Rattle.plank_base.specs.declared.keys.ThreadId.{ThreadId}
+use Rattle.plank_base.specs.declared.operations.Op.{Op}
 use Rattle.plank_prog.specs.declared.methods.Action.{Action}
 use Rattle.plank_prog.specs.declared.methods.Method.{Method}
+use Rattle.plank_prog.specs.Methods.{operation}
 use Rattle.plank_hist.specs.declared.events.Event.{Event}
 use Rattle.plank_hist.specs.declared.events.Event.TheVariants.{Invoke as invocation, Respond as response}
 use Rattle.plank_sem.specs.declared.calls.Call.{Call}
@@ -23,10 +25,14 @@ pub data Next : Type 0 where
   -- nothing: the thread would read or write a field of null
   null_read : Next
 
--- a thread without a call begins one of a method that is there
+-- the operation of the method of a call; none of an upkeep
+abbrev pub op_of : List Method → Call → Option Op
+op_of methods call = option_and_then (λ m. operation m.kind) (slice_get methods call.method)
+
+-- a thread without a call begins one of a method that is there, and tells so where the method is no upkeep
 abbrev pub begun : WorldState → ThreadId → ℕ → ℤ → Option Call → Option Method → Next
 begun w thread m key None (Some method) =
-    stepped (Some (invocation thread method.op key)) (record w { calls = insert w.calls thread.0 (fresh_call m key) })
+    stepped (option_map (λ op. invocation thread op key) (operation method.kind)) (record w { calls = insert w.calls thread.0 (fresh_call m key) })
 begun w thread m key None None = refused
 begun w thread m key (Some call) method = refused
 
@@ -40,11 +46,13 @@ went_on w thread (Some after) =
 abbrev pub ended : WorldState → ThreadId → WorldState
 ended w thread = record w { calls = remove w.calls thread.0 }
 
-abbrev pub performed : WorldState → ThreadId → Call → Action → Next
-performed w thread call (Action.Block b) = went_on w thread (block_run w.heap thread call b)
-performed w thread call (Action.Copy to from next) = went_on w thread (Some (copied w.heap call to from next))
-performed w thread call (Action.New to next) = went_on w thread (Some (allocated w.heap call to next))
-performed w thread call (Action.Return answer) = stepped (Some (response thread answer)) (ended w thread)
+-- one action of a call; a return tells its answer where the method is no upkeep
+abbrev pub performed : List Method → WorldState → ThreadId → Call → Action → Next
+performed methods w thread call (Action.Block b) = went_on w thread (block_run w.heap thread call b)
+performed methods w thread call (Action.Copy to from next) = went_on w thread (Some (copied w.heap call to from next))
+performed methods w thread call (Action.New to next) = went_on w thread (Some (allocated w.heap call to next))
+performed methods w thread call (Action.Return answer) =
+    stepped (option_map (λ op. response thread answer) (op_of methods call)) (ended w thread)
 
 -- the action at the location of a call
 abbrev pub action_of : List Method → Call → Option Action
@@ -54,7 +62,7 @@ action_of methods call =
 -- a thread with a call goes on with it
 abbrev pub gone_on : List Method → WorldState → ThreadId → Option Call → Next
 gone_on methods w thread None = refused
-gone_on methods w thread (Some call) = option_map_or (performed w thread call) (action_of methods call) refused
+gone_on methods w thread (Some call) = option_map_or (performed methods w thread call) (action_of methods call) refused
 
 abbrev pub acted : List Method → WorldState → ThreadId → Act → Next
 acted methods w thread (Invoke m key) = begun w thread m key (get w.calls thread.0) (slice_get methods m)

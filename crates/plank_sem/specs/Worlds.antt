@@ -3,6 +3,7 @@ use Rattle.std.specs.Prelude.{ℕ, ℤ, refl, replicate, None}
 use Rattle.std.specs.Coded.{Coded, code_by, coded×, coded_ℕ}
 use Rattle.std.specs.FinMap.{FinMap, empty, code}
 use Rattle.std.specs.Ordering.{nat_cmp}
+use Rattle.plank_base.specs.declared.limits.TheConstants.{VARIABLES_LIMIT}
 use Rattle.plank_prog.specs.declared.headers.Header.{Header}
 use Rattle.plank_heap.specs.declared.heaps.Heap.{Heap}
 use Rattle.plank_heap.specs.Heaps.{start_heap}
@@ -29,4 +30,4 @@ start_world h = record { heap = start_heap h; calls = empty }
 
 -- a call that has just begun: at its method's first location, each variable null
 abbrev pub fresh_call : ℕ → ℤ → Call
-fresh_call method key = record { method = method; location = 0; key = key; variables = replicate 6 None }
+fresh_call method key = record { method = method; location = 0; key = key; variables = replicate VARIABLES_LIMIT None }

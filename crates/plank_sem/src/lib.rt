@@ -12,6 +12,3 @@ pub use calls::{Call, VARIABLES};
 pub use pending::Pending;
 pub use steps::{Act, Choice, StepFault, Stepped};
 pub use worlds::World;
-
-#[cfg(test)]
-mod tests;

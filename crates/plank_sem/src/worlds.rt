@@ -1,15 +1,17 @@
 ghost use Rattle.std.specs.Prelude.{◌≡◌, ◌<◌, ◌-◌, ◌^◌, length, Some, None, IfOk, IfErr, IsSome, All, OnOk, OnErr};
 ghost use Rattle.std.specs.Option.{option_map, option_copied};
-ghost use Rattle.plank_sem.specs.Steps.{action_of};
+ghost use Rattle.plank_hist.specs.declared.events.Event.{Event};
+ghost use Rattle.plank_prog.specs.Methods.{operation};
+ghost use Rattle.plank_sem.specs.Steps.{action_of, op_of};
 ghost use Rattle.std.specs.FinMap as map;
 
 use crate::calls::{Call, VARIABLES};
 use crate::pending::Pending;
 use crate::steps::{Act, Choice, StepFault, Stepped};
-use plank_base::{OutOfMemory, ThreadId};
+use plank_base::{Op, OutOfMemory, ThreadId};
 use plank_heap::Heap;
 use plank_hist::Event;
-use plank_prog::{Action, Block, Program, Value};
+use plank_prog::{Action, Block, MethodKind, Program, Value};
 use std::alloc::Global;
 use std::marker::Model;
 
@@ -84,8 +86,8 @@ impl World {
 }
 
 impl World {
-    ghost use Rattle.plank_sem.specs.Steps.{begun, performed, gone_on, acted, stepped, refused, null_read};
-    ghost use Rattle.plank_sem.specs.Actions.{HasRoom};
+    ghost use Rattle.plank_sem.specs.Steps.{begun, went_on, performed, gone_on, acted, stepped, refused, null_read};
+    ghost use Rattle.plank_sem.specs.Actions.{HasRoom, block_run, copied, allocated};
     ghost use Rattle.plank_sem.specs.Fits.{Fits};
 
     fn act(&mut self, program: &Program, thread: ThreadId, act: Act) -> Result<Stepped, StepFault>
@@ -118,11 +120,9 @@ impl World {
             program.methods.as_slice().get(method as usize),
         ) {
             (None, Some(called)) => {
-                let op = called.op;
+                let event = invocation(thread, called.kind, key);
                 match self.calls.insert(thread, Call::fresh(method, key)) {
-                    Ok(()) => Ok(Stepped {
-                        event: Some(Event::Invoke { thread, op, key }),
-                    }),
+                    Ok(()) => Ok(Stepped { event }),
                     Err(_) => Err(StepFault::OutOfMemory),
                 }
             }
@@ -146,7 +146,7 @@ impl World {
                 thread, &call, *to, *from, *next,
             )),
             Some(Action::New { to, next }) => self.allocate(thread, &call, *to, *next),
-            Some(Action::Return(answer)) => Ok(self.answer(thread, &call, *answer)),
+            Some(Action::Return(answer)) => Ok(self.answer(program, thread, &call, *answer)),
             None => Err(StepFault::NoSuchThread),
         }
     }
@@ -160,8 +160,8 @@ impl World {
         requires pending { IsSome (map.get self.old.calls thread.0) }
         requires binds { All (λ d. d.to < VARIABLES) block.now.binds }
         requires writes { All HasRoom block.now.writes }
-        ensures made { IfOk result (λ s. performed self.old thread call.now (Action.Block block.now) ≡ stepped s.event self.new) }
-        ensures null { OnErr result (performed self.old thread call.now (Action.Block block.now) ≡ null_read) }
+        ensures made { IfOk result (λ s. went_on self.old thread (block_run self.old.heap thread call.now block.now) ≡ stepped s.event self.new) }
+        ensures null { OnErr result (went_on self.old thread (block_run self.old.heap thread call.now block.now) ≡ null_read) }
         ensures cause { IfErr result (λ e. e ≡ StepFault.NullRead) }
         ensures err { OnErr result (self.new ≡ self.old) }
     {
@@ -177,7 +177,7 @@ impl World {
     fn copy(&mut self, thread: ThreadId, call: &Call, to: u8, from: Value, next: u32) -> Stepped
         requires pending { IsSome (map.get self.old.calls thread.0) }
         requires variable { to < VARIABLES }
-        ensures { performed self.old thread call.now (Action.Copy to from next) ≡ stepped result.event self.new }
+        ensures { went_on self.old thread (Some (copied self.old.heap call.now to from next)) ≡ stepped result.event self.new }
     {
         let next = call.copy(&self.heap, to, from, next);
         self.calls.replace(thread, next);
@@ -194,7 +194,7 @@ impl World {
         requires few { length self.old.heap.nodes < 2 ^ 32 - 1 }
         requires pending { IsSome (map.get self.old.calls thread.0) }
         requires variable { to < VARIABLES }
-        ensures made { IfOk result (λ s. performed self.old thread call.now (Action.New to next) ≡ stepped s.event self.new) }
+        ensures made { IfOk result (λ s. went_on self.old thread (Some (allocated self.old.heap call.now to next)) ≡ stepped s.event self.new) }
         ensures cause { IfErr result (λ e. e ≡ StepFault.OutOfMemory) }
         ensures err { OnErr result (self.new ≡ self.old) }
     {
@@ -207,13 +207,35 @@ impl World {
         }
     }
 
-    fn answer(&mut self, thread: ThreadId, call: &Call, answer: bool) -> Stepped
-        ensures { performed self.old thread call.now (Action.Return answer) ≡ stepped result.event self.new }
+    fn answer(&mut self, program: &Program, thread: ThreadId, call: &Call, answer: bool) -> Stepped
+        ensures { performed program.now.methods self.old thread call.now (Action.Return answer) ≡ stepped result.event self.new }
     {
         self.calls.remove(thread);
-        Stepped {
-            event: Some(Event::Respond { thread, answer }),
-        }
+        let event = match operation_of(program, call) {
+            Some(_) => Some(Event::Respond { thread, answer }),
+            None => None,
+        };
+        Stepped { event }
+    }
+}
+
+// What the invocation of a method tells: nothing of an upkeep.
+fn invocation(thread: ThreadId, kind: MethodKind, key: i64) -> Option<Event>
+    ensures { result ≡ option_map (λ op. Event.Invoke thread op key) (operation kind) }
+{
+    match kind {
+        MethodKind::Set(op) => Some(Event::Invoke { thread, op, key }),
+        MethodKind::Upkeep => None,
+    }
+}
+
+// The operation of the method of a call.
+fn operation_of(program: &Program, call: &Call) -> Option<Op>
+    ensures { result ≡ op_of program.now.methods call.now }
+{
+    match program.methods.as_slice().get(call.method as usize) {
+        Some(method) => method.kind.operation(),
+        None => None,
     }
 }
 

@@ -1,9 +1,8 @@
 -- What each command answers to a text: its status, and the bytes that it writes.
-use Rattle.std.specs.Prelude.{◌≡◌, ℕ, ◌+◌, true, false, List, [], Option, Some, None, slice_get}
+use Rattle.std.specs.Prelude.{◌≡◌, ℕ, ◌+◌, true, false, List, [], Some, None, slice_get}
 use Rattle.std.specs.Option.{option_map_or}
 use Rattle.plank_base.specs.declared.limits.Thing.TheVariants as thing
 use Rattle.plank_base.specs.declared.limits.TheConstants.{BYTES_LIMIT}
-use Rattle.plank_base.specs.declared.obligations.Obligation.{Obligation}
 use Rattle.plank_ast.specs.declared.texts.Text.{Text}
 use Rattle.plank_ast.specs.Layout.{layout}
 use Rattle.plank_ast.specs.Texts.{text_tokens}
@@ -15,12 +14,13 @@ use Rattle.plank_type.specs.Limits.{first_excess}
 use Rattle.plank_type.specs.Checks.{IsProgramOf}
 use Rattle.plank_prog.specs.declared.methods.Method.{Method}
 use Rattle.plank_prog.specs.declared.programs.Program.{Program}
-use Rattle.plank_oblig.specs.Obligations.{IsFirstFailing, AllHold}
+use Rattle.plank_judge.specs.declared.verdicts.Verdict.{Verdict}
+use Rattle.plank_verdict.specs.declared.judging.Judged.{Judged}
+use Rattle.plank_verdict.specs.Judged.{IsJudged}
 use Rattle.plank_top.specs.declared.status.Status.{Status}
 use Rattle.plank_top.specs.declared.status.Status.TheVariants as status
 use Rattle.plank_top.specs.Lines.{line, refusal_text, report_text}
 use Rattle.plank_top.specs.Trees.{IsTextOf, IsUnreadable}
-use Rattle.plank_top.specs.Forms.{is_judged_form}
 
 pub record Answer : Type 0 where
   pub status : Status
@@ -36,34 +36,28 @@ too_many_bytes = refusal (status.TooLarge thing.Bytes (BYTES_LIMIT + 1) BYTES_LI
 
 -- ---- verify
 
--- every obligation of the program holds, or this one is the first that fails
-abbrev pub IsVerdict : Program → Option Obligation → Type 0
-IsVerdict p None = AllHold p.header p.methods
-IsVerdict p (Some o) = IsFirstFailing p.header p.methods o
+abbrev pub status_of : Verdict → Status
+status_of Verdict.Accepted = status.Accepted
+status_of (Verdict.Rejected obligation) = status.Rejected obligation
 
-abbrev pub verdict : Option Obligation → Status
-verdict None = status.Accepted
-verdict (Some obligation) = status.Rejected obligation
+-- the name of the method that the failing obligation is of
+abbrev pub method_name : List Method → Verdict → List ℕ
+method_name methods Verdict.Accepted = []
+method_name methods (Verdict.Rejected o) = option_map_or (λ m. m.name) (slice_get methods o.method) []
 
--- the name of the method that an obligation is of
-abbrev pub method_name : List Method → Option Obligation → List ℕ
-method_name methods None = []
-method_name methods (Some o) = option_map_or (λ m. m.name) (slice_get methods o.method) []
-
--- the report on a program of which this obligation is the first that fails
-abbrev pub judged : Program → Option Obligation → Answer
-judged p failing = record {
-  status = verdict failing;
-  output = report_text p.name failing (method_name p.methods failing);
+-- the report on a program of which this is said
+abbrev pub judged : Program → Judged → Answer
+judged p said = record {
+  status = status_of said.verdict;
+  output = report_text p.name said (method_name p.methods said.verdict);
 }
 
 -- A text of the grammar is refused with the first rule that it breaks, else with the first thing that it
--- has too much of; else it is a later form, or its program is judged.
+-- has too much of; else its program is judged.
 pub data IsJudgement (t : Text) (answer : Answer) : Type 0 where
   ill_typed : (b : Broken) → first_of (broken_rules t) ≡ Some b → answer ≡ refusal (status.IllTyped b.kind b.place) → IsJudgement t answer
   too_large : (e : Excess) → first_of (broken_rules t) ≡ None → first_excess t ≡ Some e → answer ≡ refusal (status.TooLarge e.thing e.count e.limit) → IsJudgement t answer
-  later_form : (p : Program) → IsProgramOf t p → is_judged_form t ≡ false → answer ≡ refusal status.LaterForm → IsJudgement t answer
-  by_verdict : (p : Program) → IsProgramOf t p → is_judged_form t ≡ true → (failing : Option Obligation) → IsVerdict p failing → answer ≡ judged p failing → IsJudgement t answer
+  by_verdict : (p : Program) → IsProgramOf t p → (said : Judged) → IsJudged p said → answer ≡ judged p said → IsJudgement t answer
 
 -- the answer of `verify`
 pub data IsVerifyAnswer (bytes : List ℕ) (answer : Answer) : Type 0 where

@@ -1,6 +1,5 @@
 pub mod Answers
 pub mod Endings
-pub mod Forms
 pub mod Lines
 pub mod Replies
 pub mod Soundness

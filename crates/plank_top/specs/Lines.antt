@@ -1,5 +1,5 @@
 -- The lines that a call writes: the one line of a refusal, and the lines of a report.
-use Rattle.std.specs.Prelude.{ℕ, Bool, true, false, if◌then◌else◌, Option, Some, None, List, [], ◌∷◌, ◌++◌, codes}
+use Rattle.std.specs.Prelude.{ℕ, Bool, true, false, if◌then◌else◌, List, [], ◌∷◌, ◌++◌, codes}
 use Rattle.std.specs.Fmt.{decimal}
 use Rattle.plank_base.specs.declared.places.Place.{Place}
 use Rattle.plank_base.specs.declared.limits.Thing.{Thing}
@@ -9,8 +9,10 @@ use Rattle.plank_base.specs.declared.typing.TypeKind.TheVariants.{Unknown, Twice
 use Rattle.plank_base.specs.declared.obligations.Kind.{Kind}
 use Rattle.plank_base.specs.declared.obligations.Kind.TheVariants.{Start, Edges, Null, Target, Publish, Keep, Order, Footprint, Change, Answer}
 use Rattle.plank_base.specs.declared.obligations.Obligation.{Obligation}
+use Rattle.plank_judge.specs.declared.verdicts.Verdict.{Verdict}
+use Rattle.plank_verdict.specs.declared.judging.Judged.{Judged}
 use Rattle.plank_top.specs.declared.status.Status.{Status}
-use Rattle.plank_top.specs.declared.status.Status.TheVariants.{Accepted, Rejected, Malformed, IllTyped, TooLarge, Usage, ReadFault, WriteFault, OutOfMemory, Done, LaterForm}
+use Rattle.plank_top.specs.declared.status.Status.TheVariants.{Accepted, Rejected, Malformed, IllTyped, TooLarge, Usage, ReadFault, WriteFault, OutOfMemory, Done}
 
 -- a text and the line feed after it
 abbrev pub line : List ℕ → List ℕ
@@ -58,7 +60,6 @@ refusal_text (Malformed p) = codes "malformed at " ++ place_text p
 refusal_text (IllTyped k p) = codes "ill-typed " ++ type_word k ++ codes " at " ++ place_text p
 refusal_text (TooLarge t count limit) = codes "too large " ++ thing_word t ++ codes " " ++ decimal count ++ codes " " ++ decimal limit
 refusal_text Usage = codes "usage fault"
-refusal_text LaterForm = codes "later form"
 refusal_text Accepted = []
 refusal_text (Rejected o) = []
 refusal_text ReadFault = []
@@ -86,11 +87,14 @@ obligation_text o method =
     else kind_word o.kind ++ codes " in " ++ method ++ codes " at " ++ place_text o.place
 
 -- accepted where no obligation fails, else rejected with the first that does
-abbrev pub verdict_text : Option Obligation → List ℕ → List ℕ
-verdict_text None method = codes "accepted"
-verdict_text (Some o) method = codes "rejected " ++ obligation_text o method
+abbrev pub verdict_text : Verdict → List ℕ → List ℕ
+verdict_text Verdict.Accepted method = codes "accepted"
+verdict_text (Verdict.Rejected o) method = codes "rejected " ++ obligation_text o method
 
--- the report on a text without effects
-abbrev pub report_text : List ℕ → Option Obligation → List ℕ → List ℕ
-report_text structure failing method =
-    line (codes "structure " ++ structure) ++ line (codes "effects 0") ++ line (verdict_text failing method)
+-- the name of a structure, and how many effects it has
+abbrev pub head_text : List ℕ → ℕ → List ℕ
+head_text structure effects = line (codes "structure " ++ structure) ++ line (codes "effects " ++ decimal effects)
+
+-- the report on a structure of which this is said
+abbrev pub report_text : List ℕ → Judged → List ℕ → List ℕ
+report_text structure judged method = head_text structure judged.effects ++ line (verdict_text judged.verdict method)

@@ -1,7 +1,7 @@
 -- The numbers and exit statuses by which a call's end is known outside.
 use Rattle.std.specs.Prelude.{ℕ}
 use Rattle.plank_top.specs.declared.status.Status.{Status}
-use Rattle.plank_top.specs.declared.status.Status.TheVariants.{Accepted, Rejected, Malformed, IllTyped, TooLarge, Usage, ReadFault, WriteFault, OutOfMemory, Done, LaterForm}
+use Rattle.plank_top.specs.declared.status.Status.TheVariants.{Accepted, Rejected, Malformed, IllTyped, TooLarge, Usage, ReadFault, WriteFault, OutOfMemory, Done}
 
 -- each status has a number of its own
 abbrev pub number_of : Status → ℕ
@@ -15,7 +15,6 @@ number_of ReadFault = 6
 number_of WriteFault = 7
 number_of OutOfMemory = 8
 number_of Done = 9
-number_of LaterForm = 10
 
 -- a command that is done has succeeded
 abbrev pub exit_of : Status → ℕ
@@ -29,4 +28,3 @@ exit_of Usage = number_of Usage
 exit_of ReadFault = number_of ReadFault
 exit_of WriteFault = number_of WriteFault
 exit_of OutOfMemory = number_of OutOfMemory
-exit_of LaterForm = number_of LaterForm

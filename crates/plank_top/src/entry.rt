@@ -6,14 +6,15 @@ ghost use Rattle.plank_top.specs.Words.{words_of};
 ghost use Rattle.plank_top.specs.Answers.{refusal};
 ghost use Rattle.plank_top.specs.Replies.{answer_in};
 ghost use Rattle.plank_top.specs.Endings.{Answers, Ends, Concludes, Serves, told};
-ghost use Rattle.plank_top.specs.Soundness.{IsSound};
+ghost use Rattle.plank_top.specs.declared.words.Command.TheVariants.{Verify};
+ghost use Rattle.plank_top.specs.Soundness.{IsSound, IsGiven, IsJudging};
 
 use crate::replies::{Reply, print, refuse, verify};
 use crate::status::Status;
 use crate::words::{Command, command_of};
 use plank_base::{BYTES_LIMIT, OutOfMemory, Thing};
 use plank_io::{Gate, Reading, Sink, Source, Written, read_up_to, write_all};
-use plank_oblig::accepted_runs_law;
+use plank_verdict::laws::accepted_runs_law;
 use std::alloc::Global;
 
 /// Writes a reply whole, and answers its status or the sink's fault.
@@ -84,7 +85,7 @@ fn serve<S: Source, K: Sink>(
 /// The call that the program makes: judges the text of the source as the words ask, and writes the
 /// report or the line of a refusal to the sink.
 ///
-/// The words are those of a command line without the program's name. At most 65,537 bytes are read, in
+/// The words are those of a command line without the program's name. At most 131,073 bytes are read, in
 /// pieces of at most 4,096, and nothing is written before the whole output is made. Where memory is
 /// refused, nothing was written.
 pub fn top<R, S: Source, K: Sink, G: Gate>(
@@ -108,9 +109,16 @@ pub fn top<R, S: Source, K: Sink, G: Gate>(
         result }
 
     // Accepted is said of a text alone whose every run of any number of threads has a history that is
-    // linearizable to a set.
+    // linearizable to a set, and comes to no read or write of a field of null.
     ensures sound { result ≡ Status.Accepted →
         (text : List ℕ) × GivesAll (S.left source.old) (S.left source.new) BYTES_LIMIT text × IsSound text }
+
+    // A text of the grammar that is well typed and within the limits gets a verdict, unless the source or
+    // the sink fails, or memory is refused.
+    ensures complete { map string_bytes words.now ≡ words_of Verify →
+        IsGiven (told (S.left source.old) (S.left source.new) (S.faults source.old) (S.faults source.new))
+        (told (K.taken sink.old) (K.taken sink.new) (K.faults sink.old) (K.faults sink.new)) →
+        IsJudging result }
 {
     accepted_runs_law();
     match command_of(words) {

@@ -1,9 +1,11 @@
 ghost use Rattle.std.specs.Prelude.{◌≡◌, ◌++◌, OnOk, IfOk, codes};
 ghost use Rattle.std.specs.Fmt.{decimal};
-ghost use Rattle.plank_top.specs.Lines.{thing_word, type_word, kind_word, place_text, is_of_whole_text, obligation_text, refusal_text, verdict_text, report_text, line};
+ghost use Rattle.plank_top.specs.Lines.{thing_word, type_word, kind_word, place_text, is_of_whole_text, obligation_text, refusal_text, verdict_text, head_text, report_text, line};
 
 use crate::status::Status;
 use plank_base::{Kind, Obligation, OutOfMemory, Place, Thing, TypeKind};
+use plank_judge::Verdict;
+use plank_verdict::Judged;
 use std::alloc::Global;
 
 /// The word of a thing in the line of a text that has too much of it.
@@ -152,7 +154,6 @@ fn append_refusal(alloc: Global, out: &mut Vec<u8>, status: Status) -> Result<()
         Status::IllTyped(kind, place) => append_ill_typed(alloc, out, kind, place),
         Status::TooLarge(thing, count, limit) => append_too_large(alloc, out, thing, count, limit),
         Status::Usage => append(out, b"usage fault"),
-        Status::LaterForm => append(out, b"later form"),
         _ => Ok(()),
     }
 }
@@ -171,34 +172,47 @@ pub fn refusal_line(alloc: Global, status: Status) -> Result<Vec<u8>, OutOfMemor
 fn append_verdict(
     alloc: Global,
     out: &mut Vec<u8>,
-    failing: Option<Obligation>,
+    verdict: Verdict,
     method: &[u8],
 ) -> Result<(), OutOfMemory>
-    ensures { OnOk result (out.new.items ≡ out.old.items ++ verdict_text failing method.now) }
+    ensures { OnOk result (out.new.items ≡ out.old.items ++ verdict_text verdict method.now) }
 {
-    match failing {
-        None => append(out, b"accepted"),
-        Some(obligation) => {
+    match verdict {
+        Verdict::Accepted => append(out, b"accepted"),
+        Verdict::Rejected(obligation) => {
             append(out, b"rejected ")?;
             append_obligation(alloc, out, obligation, method)
         }
     }
 }
 
-/// The report on a text without effects: its name, the number of effects, the verdict.
+fn append_head(
+    alloc: Global,
+    out: &mut Vec<u8>,
+    structure: &[u8],
+    effects: u32,
+) -> Result<(), OutOfMemory>
+    ensures { OnOk result (out.new.items ≡ out.old.items ++ head_text structure.now effects) }
+{
+    append(out, b"structure ")?;
+    append(out, structure)?;
+    append(out, b"\neffects ")?;
+    append_decimal(alloc, out, effects)?;
+    append(out, b"\n")
+}
+
+/// The report on a text: its name, the number of effects, the verdict.
 pub fn report(
     alloc: Global,
     structure: &[u8],
-    failing: Option<Obligation>,
+    judged: Judged,
     method: &[u8],
 ) -> Result<Vec<u8>, OutOfMemory>
-    ensures { IfOk result (λ out. out.items ≡ report_text structure.now failing method.now) }
+    ensures { IfOk result (λ out. out.items ≡ report_text structure.now judged method.now) }
 {
     let mut out = Vec::new(alloc);
-    append(&mut out, b"structure ")?;
-    append(&mut out, structure)?;
-    append(&mut out, b"\neffects 0\n")?;
-    append_verdict(alloc, &mut out, failing, method)?;
+    append_head(alloc, &mut out, structure, judged.effects)?;
+    append_verdict(alloc, &mut out, judged.verdict, method)?;
     append(&mut out, b"\n")?;
     Ok(out)
 }

@@ -1,17 +1,19 @@
 ghost use Rattle.std.specs.Prelude.{◌≡◌, ◌≤◌, length, IfOk};
-ghost use Rattle.plank_top.specs.Answers.{refusal, judged, printed, verdict, method_name, IsJudgement, IsVerifyAnswer, IsPrintAnswer};
+ghost use Rattle.plank_top.specs.Answers.{refusal, judged, printed, status_of, method_name, IsJudgement, IsVerifyAnswer, IsPrintAnswer};
 ghost use Rattle.plank_top.specs.Replies.{answer_in};
+ghost use Rattle.plank_ast.specs.declared.texts.Text.{Text};
 ghost use Rattle.plank_type.specs.Checks.{IsProgramOf};
 
-use crate::forms::is_judged_form;
 use crate::printing::{refusal_line, report};
 use crate::status::Status;
 use crate::trees::{Tree, tree_of};
 use plank_ast::Text;
-use plank_base::{BYTES_LIMIT, Obligation, OutOfMemory};
-use plank_oblig::first_failing;
+use plank_base::{BYTES_LIMIT, OutOfMemory};
+use plank_judge::Verdict;
 use plank_prog::{Method, Program};
+use plank_prove::judge;
 use plank_type::{TypeFault, check};
+use plank_verdict::Judged;
 use std::alloc::Global;
 
 /// What a call is to say: its status, and the bytes that it writes.
@@ -30,52 +32,44 @@ pub fn refuse(alloc: Global, status: Status) -> Result<Reply, OutOfMemory>
 }
 
 /// The status of a verdict.
-fn verdict(failing: Option<Obligation>) -> Status
-    ensures { result ≡ verdict failing }
+fn status_of(verdict: Verdict) -> Status
+    ensures { result ≡ status_of verdict }
 {
-    match failing {
-        None => Status::Accepted,
-        Some(obligation) => Status::Rejected(obligation),
+    match verdict {
+        Verdict::Accepted => Status::Accepted,
+        Verdict::Rejected(obligation) => Status::Rejected(obligation),
     }
 }
 
-/// The name of the method that an obligation is of; empty where there is none.
-fn method_name(methods: &[Method], failing: Option<Obligation>) -> &[u8]
-    ensures { result.now ≡ method_name methods.now failing }
+/// The name of the method that the failing obligation is of; empty where none fails.
+fn method_name(methods: &[Method], verdict: Verdict) -> &[u8]
+    ensures { result.now ≡ method_name methods.now verdict }
 {
-    let Some(obligation) = failing else {
-        return &[];
-    };
-    match methods.get(obligation.method as usize) {
-        Some(method) => method.name.as_bytes(),
-        None => &[],
+    match verdict {
+        Verdict::Accepted => &[],
+        Verdict::Rejected(obligation) => match methods.get(obligation.method as usize) {
+            Some(method) => method.name.as_bytes(),
+            None => &[],
+        },
     }
 }
 
-/// The report on a program of which this obligation is the first that fails.
-fn report_on(
-    alloc: Global,
-    program: &Program,
-    failing: Option<Obligation>,
-) -> Result<Reply, OutOfMemory>
-    ensures { IfOk result (λ r. answer_in r ≡ judged program.now failing) }
+/// The report on a program of which this is said.
+fn report_on(alloc: Global, program: &Program, said: Judged) -> Result<Reply, OutOfMemory>
+    ensures { IfOk result (λ r. answer_in r ≡ judged program.now said) }
 {
-    let method = method_name(program.methods.as_slice(), failing);
-    let output = report(alloc, program.name.as_bytes(), failing, method)?;
-    let status = verdict(failing);
+    let method = method_name(program.methods.as_slice(), said.verdict);
+    let output = report(alloc, program.name.as_bytes(), said, method)?;
+    let status = status_of(said.verdict);
     Ok(Reply { status, output })
 }
 
-/// Judges a program of a text.
-fn judge_program(alloc: Global, text: &Text, program: &Program) -> Result<Reply, OutOfMemory>
-    requires { IsProgramOf text.now program.now }
-    ensures { IfOk result (λ r. IsJudgement text.now (answer_in r)) }
+/// Judges the program of a text.
+fn judge_program(alloc: Global, program: &Program) -> Result<Reply, OutOfMemory>
+    ensures { IfOk result (λ r. (t : Text) → IsProgramOf t program.now → IsJudgement t (answer_in r)) }
 {
-    if !is_judged_form(text) {
-        return refuse(alloc, Status::LaterForm);
-    }
-    let failing = first_failing(program);
-    report_on(alloc, program, failing)
+    let said = judge(alloc, program)?;
+    report_on(alloc, program, said)
 }
 
 /// Types a text and judges its program.
@@ -84,7 +78,7 @@ fn judge_text(alloc: Global, text: &Text) -> Result<Reply, OutOfMemory>
 {
     match check(alloc, text) {
         Ok(program) => {
-            let reply = judge_program(alloc, text, &program);
+            let reply = judge_program(alloc, &program);
             drop(program);
             reply
         }

@@ -27,8 +27,6 @@ pub enum Status {
     OutOfMemory,
     /// A command that judges nothing has written its whole output.
     Done,
-    /// The text is of a form that is not judged yet.
-    LaterForm,
 }
 
 impl Status {
@@ -47,7 +45,6 @@ impl Status {
             Status::WriteFault => 7,
             Status::OutOfMemory => 8,
             Status::Done => 9,
-            Status::LaterForm => 10,
         }
     }
 

@@ -22,8 +22,8 @@ use Rattle.plank_prog.specs.Blocks.{same_reference, binds_stand_alone, writes_ag
 use Rattle.plank_rules.specs.Declarations.{is_among, variables_of}
 use Rattle.plank_rules.specs.StatementRules.{name_rules, read_rules, test_line_rules, bind_rules, writes_rules, optional_with_rules, block_reuses, block_rules, read_reuses, read_statement_rules, assign_rules}
 use Rattle.plank_rules.specs.MethodRules.{method_scope}
-use Rattle.plank_rules.specs.BrokenRules.{header_of as rules_header}
-use Rattle.plank_type.specs.declared.names.Names.{Names}
+use Rattle.plank_rules.specs.BrokenRules.{declared_by as rules_header}
+use Rattle.plank_rules.specs.declared.names.Declared.{Declared}
 use Rattle.plank_type.specs.Operands.{read_of, bind_of}
 use Rattle.plank_type.specs.Statements.{read_block, atomic_block}
 use Rattle.plank_type.proofs.Tests.{and_so, left_none, right_none}
@@ -38,7 +38,7 @@ pub record LawfulNames (b : Block) : Type 0 where
   pub agree : all_pairs writes_agree b.writes ≡ true
 
 -- where an assignment reads a pointer, the names of its block are lawful
-abbrev pub ReadsLawfully : Names → List (List ℕ) → List ℕ → Assigned → ℕ → Type 0
+abbrev pub ReadsLawfully : Declared → List (List ℕ) → List ℕ → Assigned → ℕ → Type 0
 ReadsLawfully names variables variable (Assigned.New place) next = ⊤
 ReadsLawfully names variables variable (Assigned.Null place) next = ⊤
 ReadsLawfully names variables variable (Assigned.Node node None) next = ⊤
@@ -48,7 +48,7 @@ module _ (m : Method) where
   abbrev vs : List (List ℕ)
   vs = variables_of m
 
-  one_read : (names : Names) (variable : Name) (node : ReferenceTree) (field : Name) → cons_option (bind_of names vs (record { variable = variable; node = node; field = field })) [] ≡ option_to_list (read_of names vs variable.label node field.label)
+  one_read : (names : Declared) (variable : Name) (node : ReferenceTree) (field : Name) → cons_option (bind_of names vs (record { variable = variable; node = node; field = field })) [] ≡ option_to_list (read_of names vs variable.label node field.label)
   one_read names variable node field = listed (read_of names vs variable.label node field.label)
     where
       listed : (o : Option Bind) → cons_option o [] ≡ option_to_list o
@@ -56,7 +56,7 @@ module _ (m : Method) where
       listed (Some d) = refl
 
   -- the block of `p = q.f;`
-  read_names : (t : Text) (names : Names) (variable : Name) (node : ReferenceTree) (field : Name) (next : ℕ) → read_statement_rules (rules_header t) (method_scope m) variable node field ≡ [] → LawfulNames (read_block names vs variable.label node field.label next)
+  read_names : (t : Text) (names : Declared) (variable : Name) (node : ReferenceTree) (field : Name) (next : ℕ) → read_statement_rules (rules_header t) (method_scope m) variable node field ≡ [] → LawfulNames (read_block names vs variable.label node field.label next)
   read_names t names variable node field next h =
       let b : BindTree = record { variable = variable; node = node; field = field } in
       let before = name_rules (method_scope m) variable ++ read_rules (rules_header t) (method_scope m) node field in
@@ -70,14 +70,14 @@ module _ (m : Method) where
       }
 
   -- the block of an assignment
-  pub assigned_names : (t : Text) (names : Names) (variable : Name) (value : Assigned) (next : ℕ) → assign_rules (rules_header t) (method_scope m) variable value ≡ [] → ReadsLawfully names vs variable.label value next
+  pub assigned_names : (t : Text) (names : Declared) (variable : Name) (value : Assigned) (next : ℕ) → assign_rules (rules_header t) (method_scope m) variable value ≡ [] → ReadsLawfully names vs variable.label value next
   assigned_names t names variable (Assigned.New place) next h = tt
   assigned_names t names variable (Assigned.Null place) next h = tt
   assigned_names t names variable (Assigned.Node node None) next h = tt
   assigned_names t names variable (Assigned.Node node (Some field)) next h = read_names t names variable node field next h
 
   -- the block of `atomic`
-  pub atomic_names : is_among vs (word_of word.Root) ≡ false → (names : Names) (t : Text) (w : Option With) (tests : List TestLine) (binds : List BindTree) (writes : List WriteTree) (met other : ℕ) → block_rules (rules_header t) (method_scope m) w tests binds writes ≡ [] → LawfulNames (atomic_block names vs w tests binds writes met other)
+  pub atomic_names : is_among vs (word_of word.Root) ≡ false → (names : Declared) (t : Text) (w : Option With) (tests : List TestLine) (binds : List BindTree) (writes : List WriteTree) (met other : ℕ) → block_rules (rules_header t) (method_scope m) w tests binds writes ≡ [] → LawfulNames (atomic_block names vs w tests binds writes met other)
   atomic_names rootless names t w tests binds writes met other h =
       let of_with = optional_with_rules (method_scope m) w in
       let of_tests = flat_map (test_line_rules (rules_header t) (method_scope m)) tests in

@@ -31,7 +31,7 @@ use Rattle.plank_prog.specs.Names.{all_pairs}
 use Rattle.plank_prog.specs.Blocks.{same_reference, reference_fits, flag_fits, key_fits, pointer_fits, is_field, test_fits, bind_fits, write_fits, block_parts_fit, binds_stand_alone, writes_agree, tests_lock, writes_lock, locks_stand_alone, is_lock_statement, is_lawful_block}
 use Rattle.plank_prog.specs.Methods.{is_lawful_action}
 use Rattle.plank_rules.specs.Declarations.{same_name, number_of}
-use Rattle.plank_type.specs.declared.names.Names.{Names}
+use Rattle.plank_rules.specs.declared.names.Declared.{Declared}
 use Rattle.plank_type.specs.declared.operands.Meaning.{Meaning}
 use Rattle.plank_type.specs.Conditions.{is_equality}
 use Rattle.plank_type.specs.Operands.{reference_of, with_of, field_meaning, alone_meaning, node_meaning, meaning_of, no_test, test_compared, test_alone, test_ended, test_of, bind_to, read_of, bind_of, written_of, write_of, writes_of}
@@ -42,7 +42,7 @@ use Rattle.plank_type.proofs.KnownNames.{same_self}
 use Rattle.plank_type.proofs.BlockNames.{LawfulNames, ReadsLawfully}
 
 -- a header with as many fields as names, and a lock where the names have one
-pub record Fitting (h : Header) (names : Names) : Type 0 where
+pub record Fitting (h : Header) (names : Declared) : Type 0 where
   pub flags : length h.flags ≡ length names.flags
   pub pointers : length h.pointers ≡ length names.pointers
   pub has_lock : h.has_lock ≡ names.has_lock
@@ -74,7 +74,7 @@ or_not : (a b : Bool) → a ≡ false → b ≡ false → (a || b) ≡ false
 or_not true b h k = h
 or_not false b h k = k
 
-module _ (h : Header) (names : Names) (fitting : Fitting h names) (variables : List (List ℕ)) where
+module _ (h : Header) (names : Declared) (fitting : Fitting h names) (variables : List (List ℕ)) where
   abbrev v : ℕ
   v = length variables
 

@@ -17,8 +17,8 @@ use Rattle.plank_prog.specs.Blocks.{block_reads, binds_stand_alone}
 use Rattle.plank_rules.specs.Declarations.{same_name, is_among, number_of, variables_of}
 use Rattle.plank_rules.specs.StatementRules.{name_rules, read_rules, test_line_names, write_names, with_names, bind_names, block_names, bound_by, bind_rules, block_reuses}
 use Rattle.plank_rules.specs.MethodRules.{method_scope}
-use Rattle.plank_rules.specs.BrokenRules.{header_of as rules_header}
-use Rattle.plank_type.specs.declared.names.Names.{Names}
+use Rattle.plank_rules.specs.BrokenRules.{declared_by as rules_header}
+use Rattle.plank_rules.specs.declared.names.Declared.{Declared}
 use Rattle.plank_type.specs.Operands.{reference_of, bind_to, bind_of, binds_of}
 use Rattle.plank_type.specs.Statements.{atomic_block}
 use Rattle.plank_type.proofs.Tests.{and_so, left_none, right_none}
@@ -76,7 +76,7 @@ module _ (m : Method) where
       (left_none (bind_rules (rules_header t) (method_scope m) b) rest h)))
       (binds_known t bs (right_none (bind_rules (rules_header t) (method_scope m) b) rest h))
 
-  module _ (names : Names) (w : Option With) (tests : List TestLine) (binds : List BindTree) (writes : List WriteTree) (met other : ℕ) (known : are_known binds ≡ true) (reused : block_reuses (method_scope m) w tests binds writes ≡ []) where
+  module _ (names : Declared) (w : Option With) (tests : List TestLine) (binds : List BindTree) (writes : List WriteTree) (met other : ℕ) (known : are_known binds ≡ true) (reused : block_reuses (method_scope m) w tests binds writes ≡ []) where
     counted : (a : List ℕ) → times a (block_names w tests binds writes) ≡ times a (with_names w) + times a (flat_map test_line_names tests) + (times a (variables_bound binds) + times a (nodes_read binds)) + times a (flat_map write_names writes)
     counted a =
         let ws = with_names w in

@@ -11,12 +11,12 @@ use Rattle.plank_prog.specs.declared.scopes.Scope.{Scope}
 use Rattle.plank_prog.specs.Conditions.{all_true}
 use Rattle.plank_prog.specs.Scopes.{condition_fits}
 use Rattle.plank_prog.proofs.Values.{condition_fits-All, condition_fits-Any}
-use Rattle.plank_type.specs.declared.names.Names.{Names}
+use Rattle.plank_rules.specs.declared.names.Declared.{Declared}
 use Rattle.plank_type.specs.Conditions.{asked_of, asked_field, condition_ended, condition_alone, within_scope, literal_step, condition_step, conjunction_step, condition_of, conjunction_of, literal_of}
 use Rattle.plank_type.proofs.Constants.{constant_fits}
 use Rattle.plank_type.proofs.Tests.{and_so}
 
-module _ (names : Names) (scope : Scope) where
+module _ (names : Declared) (scope : Scope) where
   kept_fits : (fits : Bool) (c : Condition) → condition_fits scope c ≡ fits → condition_fits scope (if fits then c else Condition.Constant false) ≡ true
   kept_fits true c h = h
   kept_fits false c h = constant_fits scope false

@@ -1,4 +1,4 @@
--- Names that break no rule of typing have numbers, and different names have different ones: the names after `with` differ.
+-- Declared that break no rule of typing have numbers, and different names have different ones: the names after `with` differ.
 use Rattle.std.proofs.Common.{◌≡◌, ℕ, Bool, true, false, not, List, [], ◌∷◌, map, Option, Some, None, refl, sym, ◌∙◌, ap}
 use Rattle.std.specs.Prelude.{◌==◌}
 use Rattle.std.specs.List.{list_all, flat_map}

@@ -12,6 +12,7 @@ pub mod WithinLimits
 pub mod Constants
 pub mod ConditionsFit
 pub mod Rules
+pub mod AsWritten
 pub mod HeaderLaw
 pub mod BlocksLaw
 pub mod PartsLaw

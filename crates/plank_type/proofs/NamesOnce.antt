@@ -1,4 +1,4 @@
--- Names and their numbers, and how often a name occurs in a block: a variable that the block binds occurs once.
+-- Declared and their numbers, and how often a name occurs in a block: a variable that the block binds occurs once.
 use Rattle.std.proofs.Common.{◌≡◌, ℕ, suc, ◌+◌, ◌≤◌, ◌<◌, Bool, true, false, not, ◌&&◌, ◌||◌, List, [], ◌∷◌, ◌++◌, length, map, get_or, Some, None, refl, sym, ◌∙◌, ap, subst, arith, if◌then◌else◌}
 use Rattle.std.specs.Prelude.{nat_lt, cond, fold}
 use Rattle.std.specs.List.{list_any, flat_map, position_or_len}

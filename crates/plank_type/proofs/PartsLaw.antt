@@ -24,12 +24,12 @@ use Rattle.plank_rules.specs.declared.broken.Broken.{Broken}
 use Rattle.plank_rules.specs.Declarations.{is_among, variables_of}
 use Rattle.plank_rules.specs.StatementRules.{tests_rules, block_rules, assign_rules, lock_rules, else_layer as rules_in_else, statement_layer as rules_in_statement, body_layer as rules_in_body, statement_rules, body_rules, else_rules}
 use Rattle.plank_rules.specs.MethodRules.{method_scope}
-use Rattle.plank_rules.specs.BrokenRules.{header_of as rules_header}
+use Rattle.plank_rules.specs.BrokenRules.{declared_by as rules_header}
 use Rattle.plank_prog.specs.declared.headers.Header.{Header}
 use Rattle.plank_prog.specs.declared.methods.Action.{Action}
 use Rattle.plank_prog.specs.declared.methods.Location.{Location}
 use Rattle.plank_prog.specs.Methods.{is_lawful_action}
-use Rattle.plank_type.specs.declared.names.Names.{Names}
+use Rattle.plank_rules.specs.declared.names.Declared.{Declared}
 use Rattle.plank_type.specs.declared.exits.Exits.{Exits}
 use Rattle.plank_type.specs.Operands.{reference_of}
 use Rattle.plank_type.specs.Statements.{Part, exit_within, loop_exits, exits_before, assignment, atomic_block, tests_block, take_lock, free_lock, list_size, list_entry, list_locations, step_part, loop_part, while_part, if_part, atomic_part, jump_part, body_step, else_step, statement_step, statement_part, body_part, else_part, statements_size, statements_locations}
@@ -51,7 +51,7 @@ one_more ls n e = omega arith
 two_more : (ls rs : List Location) (m n : ℕ) → length ls ≡ m → length rs ≡ n → suc (length (ls ++ rs)) ≡ 1 + m + n
 two_more ls rs m n e f = omega (arith, length-append ls rs)
 
-module _ (t : Text) (m : Method) (rootless : is_among (variables_of m) (word_of word.Root) ≡ false) (h : Header) (names : Names) (fitting : Fitting h names) where
+module _ (t : Text) (m : Method) (rootless : is_among (variables_of m) (word_of word.Root) ≡ false) (h : Header) (names : Declared) (fitting : Fitting h names) where
   abbrev variables : List (List ℕ)
   variables = variables_of m
 
@@ -76,7 +76,7 @@ module _ (t : Text) (m : Method) (rootless : is_among (variables_of m) (word_of 
     pub size : (count at : ℕ) (exits : Exits) → length (p.locations names variables count at exits) ≡ p.size
     pub lawful : broken ≡ [] → (count at : ℕ) (exits : Exits) → at + p.size ≤ count → each_lawful count (p.locations names variables count at exits) ≡ true
 
-  step_so : (broken : List Broken) (place : Place) (action : Names → List (List ℕ) → ℕ → ℕ → Exits → Action) → (broken ≡ [] → (count at : ℕ) (exits : Exits) → at < count → is_lawful_action h (length variables) count (action names variables count at exits) ≡ true) → Lawful broken (step_part place action)
+  step_so : (broken : List Broken) (place : Place) (action : Declared → List (List ℕ) → ℕ → ℕ → Exits → Action) → (broken ≡ [] → (count at : ℕ) (exits : Exits) → at < count → is_lawful_action h (length variables) count (action names variables count at exits) ≡ true) → Lawful broken (step_part place action)
   step_so broken place action so = record {
     size = λ count at exits. refl;
     lawful = λ none count at exits room. and_so (is_lawful_action h (length variables) count (action names variables count at exits)) true (so none count at exits (omega arith)) refl;

@@ -25,7 +25,7 @@ use Rattle.plank_prog.specs.Blocks.{same_reference, key_reads, pointer_reads, te
 use Rattle.plank_rules.specs.Declarations.{same_name, number_of}
 use Rattle.plank_rules.specs.Occurrences.{Occurrence, reference_occurrence}
 use Rattle.plank_rules.specs.StatementRules.{operand_names, atom_end_names, test_names, test_line_names, written_names, write_names, with_list, with_names}
-use Rattle.plank_type.specs.declared.names.Names.{Names}
+use Rattle.plank_rules.specs.declared.names.Declared.{Declared}
 use Rattle.plank_type.specs.declared.operands.Meaning.{Meaning}
 use Rattle.plank_type.specs.Conditions.{is_equality}
 use Rattle.plank_type.specs.Operands.{reference_of, with_of, field_meaning, node_meaning, meaning_of, no_test, test_compared, test_alone, test_ended, test_of, bind_to, bind_of, binds_of, written_of, write_of, writes_of}
@@ -57,7 +57,7 @@ mapped_false : {A : Type 0} (test : A → Bool) (f : ℕ → A) (o : Option ℕ)
 mapped_false test f None h = refl
 mapped_false test f (Some i) h = h i
 
-module _ (names : Names) (variables : List (List ℕ)) (a : List ℕ) (v : ℕ) (numbered : number_of a variables ≡ Some v) where
+module _ (names : Declared) (variables : List (List ℕ)) (a : List ℕ) (v : ℕ) (numbered : number_of a variables ≡ Some v) where
   abbrev r : Reference
   r = Reference.Variable v
 

@@ -1,19 +1,19 @@
 -- A text that has too much of nothing is within each limit.
 use Rattle.std.proofs.Common.{◌≡◌, ℕ, suc, ◌≤◌, ◌<◌, Bool, true, false, List, [], ◌∷◌, length, map, Option, Some, None, refl, sym, ap, subst, arith, if◌then◌else◌}
-use Rattle.std.specs.Prelude.{nat_le, sum_by, All}
+use Rattle.std.specs.Prelude.{nat_le, sum_by, All, is_some}
 use Rattle.std.specs.Option.{option_or}
 use Rattle.std.proofs.lemmas.Bool.{leb-true}
 use Rattle.std.proofs.lemmas.List.Sums.{sum_by-cons}
 use Rattle.std.proofs.lemmas.List.Elements.{All-nil, All-cons}
 use Rattle.plank_base.specs.declared.limits.Thing.{Thing}
-use Rattle.plank_base.specs.declared.limits.TheConstants.{METHODS_LIMIT, VARIABLES_LIMIT, FLAGS_LIMIT, POINTERS_LIMIT, NODES_LIMIT, LOCATIONS_LIMIT}
+use Rattle.plank_base.specs.declared.limits.TheConstants.{METHODS_LIMIT, VARIABLES_LIMIT, FROZEN_VARIABLES_LIMIT, FLAGS_LIMIT, POINTERS_LIMIT, NODES_LIMIT, LOCATIONS_LIMIT}
 use Rattle.plank_ast.specs.declared.methods.Method.{Method as MethodTree}
 use Rattle.plank_ast.specs.declared.texts.Text.{Text}
 use Rattle.plank_rules.specs.Declarations.{declared_variables, methods_of as method_trees}
 use Rattle.plank_type.specs.declared.limits.Excess.{Excess}
 use Rattle.plank_type.specs.Numbers.{names_of, HasFewNames}
 use Rattle.plank_type.specs.Methods.{method_size}
-use Rattle.plank_type.specs.Limits.{told, past_limit, first_given, variables_excess, header_excess, methods_excess, text_size, text_excess, IsSmall}
+use Rattle.plank_type.specs.Limits.{told, past_limit, first_given, variables_limit, variables_excess, header_excess, methods_excess, text_size, text_excess, IsSmall}
 
 -- ---- nothing of either
 
@@ -53,18 +53,28 @@ length_map f (x ∷ xs) = ap suc (length_map f xs)
 pub first_none : {A : Type 0} (give : A → Option Excess) (x : A) (xs : List A) → first_given give (x ∷ xs) ≡ None → first_given give xs ≡ None
 first_none give x xs h = neither_second (give x) (first_given give xs) h
 
-small_head : (m : MethodTree) (ms : List MethodTree) → first_given variables_excess (m ∷ ms) ≡ None → sum_by method_size (m ∷ ms) ≤ LOCATIONS_LIMIT → IsSmall m
-small_head m ms h fits = record {
-  variables = told_at_most Thing.Variables (length (declared_variables m)) VARIABLES_LIMIT (omega arith)
-      (neither_first (variables_excess m) (first_given variables_excess ms) h);
-  locations = omega (arith, sum_by-cons method_size m ms);
-}
+if_at_most : (test : Bool) → (if test then FROZEN_VARIABLES_LIMIT else VARIABLES_LIMIT) ≤ VARIABLES_LIMIT
+if_at_most true = omega arith
+if_at_most false = omega arith
 
-small_rest : (ms : List MethodTree) → first_given variables_excess ms ≡ None → sum_by method_size ms ≤ LOCATIONS_LIMIT → All IsSmall ms
-small_rest [] h fits = All-nil IsSmall
-small_rest (m ∷ ms) h fits =
-    All-cons IsSmall m ms (small_head m ms h fits)
-    (small_rest ms (first_none variables_excess m ms h) (omega (arith, sum_by-cons method_size m ms)))
+pub few_variables : (t : Text) → variables_limit t ≤ VARIABLES_LIMIT
+few_variables t = if_at_most (is_some t.freeze)
+
+module _ (limit : ℕ) (few_enough : limit ≤ VARIABLES_LIMIT) where
+  small_head : (m : MethodTree) (ms : List MethodTree) → first_given (variables_excess limit) (m ∷ ms) ≡ None → sum_by method_size (m ∷ ms) ≤ LOCATIONS_LIMIT → IsSmall m
+  small_head m ms h fits =
+      let within : length (declared_variables m) ≤ limit = told_at_most Thing.Variables (length (declared_variables m)) limit (omega arith)
+      (neither_first (variables_excess limit m) (first_given (variables_excess limit) ms) h) in
+      record {
+        variables = omega arith;
+        locations = omega (arith, sum_by-cons method_size m ms);
+      }
+
+  small_rest : (ms : List MethodTree) → first_given (variables_excess limit) ms ≡ None → sum_by method_size ms ≤ LOCATIONS_LIMIT → All IsSmall ms
+  small_rest [] h fits = All-nil IsSmall
+  small_rest (m ∷ ms) h fits =
+      All-cons IsSmall m ms (small_head m ms h fits)
+      (small_rest ms (first_none (variables_excess limit) m ms h) (omega (arith, sum_by-cons method_size m ms)))
 
 -- ---- the text
 
@@ -87,10 +97,10 @@ module _ (t : Text) (h : text_excess t ≡ None) where
   pub few_methods : length (method_trees t) ≤ METHODS_LIMIT
   few_methods =
       told_at_most Thing.Methods (length (method_trees t)) METHODS_LIMIT (omega arith)
-      (neither_first (past_limit Thing.Methods (told (length (method_trees t))) METHODS_LIMIT) (first_given variables_excess (method_trees t)) of_methods)
+      (neither_first (past_limit Thing.Methods (told (length (method_trees t))) METHODS_LIMIT) (first_given (variables_excess (variables_limit t)) (method_trees t)) of_methods)
 
-  pub variables_given : first_given variables_excess (method_trees t) ≡ None
-  variables_given = neither_second (past_limit Thing.Methods (told (length (method_trees t))) METHODS_LIMIT) (first_given variables_excess (method_trees t)) of_methods
+  pub variables_given : first_given (variables_excess (variables_limit t)) (method_trees t) ≡ None
+  variables_given = neither_second (past_limit Thing.Methods (told (length (method_trees t))) METHODS_LIMIT) (first_given (variables_excess (variables_limit t)) (method_trees t)) of_methods
 
   pub few_flags : length t.flags ≤ FLAGS_LIMIT
   few_flags =
@@ -118,7 +128,7 @@ module _ (t : Text) (h : text_excess t ≡ None) where
   }
 
   pub first_small : IsSmall t.methods.first
-  first_small = small_head t.methods.first t.methods.others variables_given few_locations
+  first_small = small_head (variables_limit t) (few_variables t) t.methods.first t.methods.others variables_given few_locations
 
   pub others_small : All IsSmall t.methods.others
-  others_small = small_rest (t.methods.others) (first_none variables_excess t.methods.first t.methods.others variables_given) (omega (arith, sum_by-cons method_size t.methods.first t.methods.others, few_locations))
+  others_small = small_rest (variables_limit t) (few_variables t) (t.methods.others) (first_none (variables_excess (variables_limit t)) t.methods.first t.methods.others variables_given) (omega (arith, sum_by-cons method_size t.methods.first t.methods.others, few_locations))

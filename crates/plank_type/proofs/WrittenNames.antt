@@ -26,8 +26,8 @@ use Rattle.plank_rules.specs.Meanings.{label_meaning, unknown_reference, unknown
 use Rattle.plank_rules.specs.Atoms.{is_unknown}
 use Rattle.plank_rules.specs.StatementRules.{access_meaning, written_rules, write_rules, write_heads, written_field, writes_rules}
 use Rattle.plank_rules.specs.MethodRules.{method_scope}
-use Rattle.plank_rules.specs.BrokenRules.{header_of as rules_header}
-use Rattle.plank_type.specs.declared.names.Names.{Names}
+use Rattle.plank_rules.specs.BrokenRules.{declared_by as rules_header}
+use Rattle.plank_rules.specs.declared.names.Declared.{Declared}
 use Rattle.plank_type.specs.Operands.{reference_of, written_of, write_of, writes_of}
 use Rattle.plank_type.proofs.Tests.{and_so, left_none, right_none}
 use Rattle.plank_type.proofs.Distinct.{when_none, when_rest, same_names, own_name}
@@ -128,7 +128,7 @@ module _ (m : Method) where
 
     -- ---- what writes write
 
-    module _ (names : Names) where
+    module _ (names : Declared) where
       -- a write of a node, to the field with a name
       abbrev Writes : Reference → List ℕ → Write → Type 0
       Writes q field (Write.Flag r flag to) = (r ≡ q) × (number_of field names.flags ≡ Some flag)

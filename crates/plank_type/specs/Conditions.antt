@@ -18,7 +18,7 @@ use Rattle.plank_prog.specs.declared.conditions.KeyTerm.TheVariants as term
 use Rattle.plank_prog.specs.declared.conditions.KeyRelation.{KeyRelation}
 use Rattle.plank_prog.specs.declared.scopes.Scope.{Scope}
 use Rattle.plank_prog.specs.Scopes.{condition_fits}
-use Rattle.plank_type.specs.declared.names.Names.{Names}
+use Rattle.plank_rules.specs.declared.names.Declared.{Declared}
 use Rattle.plank_type.specs.declared.conditions.Asked.{Asked}
 use Rattle.plank_rules.specs.Declarations.{number_of}
 
@@ -36,19 +36,19 @@ is_equality Comparison.Less = false
 is_equality Comparison.AtMost = false
 
 -- a field of the node
-abbrev pub asked_field : Names → Name → Asked
+abbrev pub asked_field : Declared → Name → Asked
 asked_field names f =
     option_map_or Asked.Flag (number_of f.label names.flags)
     (option_map_or Asked.Pointer (number_of f.label names.pointers) Asked.Nothing)
 
 -- only the walked key stands alone, and only the node before a dot
-abbrev pub asked_part : Names → Option Field → Asked
+abbrev pub asked_part : Declared → Option Field → Asked
 asked_part names None = Asked.Key term.Walked
 asked_part names (Some (Field.Key place)) = Asked.Key term.Node
 asked_part names (Some (Field.Name f)) = asked_field names f
 
 -- what an operand asks for
-abbrev pub asked_of : Names → Operand → Asked
+abbrev pub asked_of : Declared → Operand → Asked
 asked_of names (Operand.Node node field) = asked_part names field
 asked_of names (Operand.Min place) = Asked.Key term.Min
 asked_of names (Operand.Max place) = Asked.Key term.Max
@@ -70,7 +70,7 @@ condition_alone set Asked.Null = Condition.Constant false
 condition_alone set (Asked.Key a) = Condition.Constant false
 condition_alone set Asked.Nothing = Condition.Constant false
 
-abbrev pub condition_ended : Names → Asked → AtomEnd → Condition
+abbrev pub condition_ended : Declared → Asked → AtomEnd → Condition
 condition_ended names first AtomEnd.Nothing = condition_alone true first
 condition_ended names first (AtomEnd.Compared comparison place second) = condition_compared first comparison (asked_of names second)
 condition_ended names first (AtomEnd.In place node) = Condition.Visited
@@ -79,14 +79,14 @@ condition_ended names first (AtomEnd.In place node) = Condition.Visited
 abbrev pub within_scope : Scope → Condition → Condition
 within_scope scope c = if condition_fits scope c then c else Condition.Constant false
 
-abbrev pub atom_condition : Names → Scope → Atom → Condition
+abbrev pub atom_condition : Declared → Scope → Atom → Condition
 atom_condition names scope a = within_scope scope (condition_ended names (asked_of names a.operand) a.end)
 
-abbrev pub negated_condition : Names → Scope → Name → Condition
+abbrev pub negated_condition : Declared → Scope → Name → Condition
 negated_condition names scope field = within_scope scope (condition_alone false (asked_field names field))
 
 -- one layer of a condition, its parts read already
-abbrev pub literal_step : Names → Scope → Literal-F Condition Condition Condition → Condition
+abbrev pub literal_step : Declared → Scope → Literal-F Condition Condition Condition → Condition
 literal_step names scope (Literal-F.True place) = Condition.Constant true
 literal_step names scope (Literal-F.False place) = Condition.Constant false
 literal_step names scope (Literal-F.Group place inner) = inner
@@ -99,11 +99,11 @@ condition_step c = Any (c.first ∷ c.others)
 abbrev pub conjunction_step : Conjunction-F Condition Condition Condition → Condition
 conjunction_step c = All (c.first ∷ c.others)
 
-abbrev pub condition_of : Names → Scope → ConditionTree → Condition
+abbrev pub condition_of : Declared → Scope → ConditionTree → Condition
 condition_of names scope = fold-Condition Condition Condition Condition (literal_step names scope) condition_step conjunction_step
 
-abbrev pub conjunction_of : Names → Scope → Conjunction → Condition
+abbrev pub conjunction_of : Declared → Scope → Conjunction → Condition
 conjunction_of names scope = fold-Conjunction Condition Condition Condition (literal_step names scope) condition_step conjunction_step
 
-abbrev pub literal_of : Names → Scope → Literal → Condition
+abbrev pub literal_of : Declared → Scope → Literal → Condition
 literal_of names scope = fold-Literal Condition Condition Condition (literal_step names scope) condition_step conjunction_step

@@ -20,7 +20,7 @@ use Rattle.plank_prog.specs.declared.headers.StartNode.{StartNode}
 use Rattle.plank_prog.specs.declared.headers.Keep.{Keep}
 use Rattle.plank_prog.specs.declared.headers.Header.{Header}
 use Rattle.plank_prog.specs.declared.scopes.Scope.{Scope}
-use Rattle.plank_type.specs.declared.names.Names.{Names}
+use Rattle.plank_rules.specs.declared.names.Declared.{Declared}
 use Rattle.plank_rules.specs.Declarations.{same_name, number_of}
 use Rattle.plank_type.specs.Numbers.{names_of}
 use Rattle.plank_type.specs.Conditions.{condition_of}
@@ -28,15 +28,15 @@ use Rattle.plank_type.specs.Conditions.{condition_of}
 -- ---- what conditions may ask for
 
 -- conditions on edges and on ends of walks
-abbrev pub walk_scope_of : Names → Scope
+abbrev pub walk_scope_of : Declared → Scope
 walk_scope_of names = record { flags = length names.flags; pointers = 0; walked = true; visited = false }
 
 -- the condition of frozen nodes
-abbrev pub freeze_scope_of : Names → Scope
+abbrev pub freeze_scope_of : Declared → Scope
 freeze_scope_of names = record { flags = length names.flags; pointers = 0; walked = false; visited = false }
 
 -- keeps
-abbrev pub keep_scope_of : Names → Scope
+abbrev pub keep_scope_of : Declared → Scope
 keep_scope_of names = record { flags = length names.flags; pointers = length names.pointers; walked = true; visited = true }
 
 -- ---- pointer fields
@@ -47,13 +47,13 @@ order_of Direction.Descending = KeyOrder.Descending
 order_of Direction.Free = KeyOrder.Free
 
 -- the condition of the first edge of a pointer field
-abbrev pub edge_of : Names → List NamedCondition → List ℕ → Option Condition
+abbrev pub edge_of : Declared → List NamedCondition → List ℕ → Option Condition
 edge_of names [] pointer = None
 edge_of names (line ∷ lines) pointer =
     if same_name pointer line.name.label then Some (condition_of names (walk_scope_of names) line.condition)
     else edge_of names lines pointer
 
-abbrev pub pointer_of : Names → List NamedCondition → PointerLine → Pointer
+abbrev pub pointer_of : Declared → List NamedCondition → PointerLine → Pointer
 pointer_of names edges line =
     record { name = line.name.label; order = order_of line.direction; edge = edge_of names edges line.name.label }
 
@@ -89,7 +89,7 @@ start_pointer nodes [] pointer = None
 start_pointer nodes (item ∷ items) pointer =
     if same_name pointer item.field.label then node_of nodes item.value else start_pointer nodes items pointer
 
-abbrev pub start_node_of : Names → StartLine → StartNode
+abbrev pub start_node_of : Declared → StartLine → StartNode
 start_node_of names line = record {
   name = line.name.label;
   key = start_key line.key;
@@ -104,13 +104,13 @@ root_of nodes (line ∷ lines) = unwrap_or (number_of line.name.label nodes) 0
 
 -- ---- the header
 
-abbrev pub keep_of : Names → NamedCondition → Keep
+abbrev pub keep_of : Declared → NamedCondition → Keep
 keep_of names line = record { name = line.name.label; condition = condition_of names (keep_scope_of names) line.condition }
 
-abbrev pub freeze_of : Names → Option ConditionLine → Option Condition
+abbrev pub freeze_of : Declared → Option ConditionLine → Option Condition
 freeze_of names line = option_map (λ l. condition_of names (freeze_scope_of names) l.condition) line
 
-abbrev pub header_with : Names → Text → Header
+abbrev pub header_with : Declared → Text → Header
 header_with names t = record {
   flags = names.flags;
   pointers = map (pointer_of names t.edges) t.pointers;

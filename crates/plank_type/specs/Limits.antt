@@ -1,8 +1,8 @@
 -- What a text has too much of: the first thing, in the order in which limits are tested.
-use Rattle.std.specs.Prelude.{ℕ, min, ◌≤◌, ◌==◌, nat_le, List, [], ◌∷◌, length, sum_by, Option, Some, None, if◌then◌else◌}
+use Rattle.std.specs.Prelude.{ℕ, min, ◌≤◌, ◌==◌, nat_le, List, [], ◌∷◌, length, is_some, sum_by, Option, Some, None, if◌then◌else◌}
 use Rattle.std.specs.Option.{option_or}
 use Rattle.plank_base.specs.declared.limits.Thing.{Thing}
-use Rattle.plank_base.specs.declared.limits.TheConstants.{METHODS_LIMIT, VARIABLES_LIMIT, FLAGS_LIMIT, POINTERS_LIMIT, NODES_LIMIT, LOCATIONS_LIMIT, SITES_LIMIT, EFFECT_FACTS_LIMIT}
+use Rattle.plank_base.specs.declared.limits.TheConstants.{METHODS_LIMIT, VARIABLES_LIMIT, FROZEN_VARIABLES_LIMIT, FLAGS_LIMIT, POINTERS_LIMIT, NODES_LIMIT, LOCATIONS_LIMIT, SITES_LIMIT, EFFECT_FACTS_LIMIT}
 use Rattle.plank_ast.specs.declared.methods.Method.{Method as MethodTree}
 use Rattle.plank_ast.specs.declared.texts.Text.{Text}
 use Rattle.plank_prog.specs.declared.headers.Header.{Header}
@@ -35,9 +35,13 @@ pub record IsSmall (m : MethodTree) : Type 0 where
   pub variables : length (declared_variables m) ≤ VARIABLES_LIMIT
   pub locations : method_size m ≤ LOCATIONS_LIMIT
 
--- the variables of the first method that has too many
-abbrev pub variables_excess : MethodTree → Option Excess
-variables_excess m = past_limit Thing.Variables (told (length (declared_variables m))) VARIABLES_LIMIT
+-- how many variables a method of the text may have
+abbrev pub variables_limit : Text → ℕ
+variables_limit t = if is_some t.freeze then FROZEN_VARIABLES_LIMIT else VARIABLES_LIMIT
+
+-- the variables of a method that has too many
+abbrev pub variables_excess : ℕ → MethodTree → Option Excess
+variables_excess limit m = past_limit Thing.Variables (told (length (declared_variables m))) limit
 
 abbrev pub header_excess : Text → Option Excess
 header_excess t =
@@ -47,7 +51,7 @@ header_excess t =
 
 abbrev pub methods_excess : Text → Option Excess
 methods_excess t =
-    option_or (past_limit Thing.Methods (told (length (method_trees t))) METHODS_LIMIT) (first_given variables_excess (method_trees t))
+    option_or (past_limit Thing.Methods (told (length (method_trees t))) METHODS_LIMIT) (first_given (variables_excess (variables_limit t)) (method_trees t))
 
 abbrev pub text_size : Text → ℕ
 text_size t = sum_by method_size (method_trees t)

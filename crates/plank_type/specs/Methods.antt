@@ -5,8 +5,9 @@ use Rattle.plank_base.specs.declared.operations.Op.{Op}
 use Rattle.plank_ast.specs.declared.methods.Method.{Method as MethodTree}
 use Rattle.plank_ast.specs.declared.texts.Text.{Text}
 use Rattle.plank_prog.specs.declared.methods.Location.{Location}
+use Rattle.plank_prog.specs.declared.methods.MethodKind.{MethodKind}
 use Rattle.plank_prog.specs.declared.methods.Method.{Method}
-use Rattle.plank_type.specs.declared.names.Names.{Names}
+use Rattle.plank_rules.specs.declared.names.Declared.{Declared}
 use Rattle.plank_type.specs.declared.exits.Exits.{Exits}
 use Rattle.plank_rules.specs.Declarations.{same_name, variables_of, methods_of as method_trees}
 use Rattle.plank_type.specs.Numbers.{names_of}
@@ -16,9 +17,12 @@ use Rattle.plank_type.specs.Statements.{statements_size, statements_locations}
 abbrev pub kind_word : MethodTree → List ℕ
 kind_word m = option_map_or (λ kind. kind.label) m.kind m.name.label
 
-abbrev pub operation_of : List ℕ → Op
-operation_of word =
-    if same_name word (codes "contains") then Op.Contains else (if same_name word (codes "insert") then Op.Insert else Op.Delete)
+-- what the word says; a text that breaks no rule of typing has no other word
+abbrev pub kind_of : List ℕ → MethodKind
+kind_of word =
+    if same_name word (codes "contains") then MethodKind.Set Op.Contains
+    else (if same_name word (codes "insert") then MethodKind.Set Op.Insert
+    else (if same_name word (codes "delete") then MethodKind.Set Op.Delete else MethodKind.Upkeep))
 
 abbrev pub method_size : MethodTree → ℕ
 method_size m = statements_size m.statements
@@ -27,13 +31,13 @@ method_size m = statements_size m.statements
 abbrev pub end_exits : ℕ → Exits
 end_exits count = record { next = count; of_break = count; of_continue = count }
 
-abbrev pub locations_of : Names → MethodTree → List Location
+abbrev pub locations_of : Declared → MethodTree → List Location
 locations_of names m = statements_locations m.statements names (variables_of m) (method_size m) 0 (end_exits (method_size m))
 
-abbrev pub method_of : Names → MethodTree → Method
+abbrev pub method_of : Declared → MethodTree → Method
 method_of names m = record {
   name = m.name.label;
-  op = operation_of (kind_word m);
+  kind = kind_of (kind_word m);
   arg = m.argument.label;
   variables = variables_of m;
   locations = locations_of names m;

@@ -19,7 +19,7 @@ use Rattle.plank_prog.specs.declared.blocks.Test.{Test}
 use Rattle.plank_prog.specs.declared.blocks.Bind.{Bind}
 use Rattle.plank_prog.specs.declared.blocks.Write.{Write}
 use Rattle.plank_prog.specs.Blocks.{is_field}
-use Rattle.plank_type.specs.declared.names.Names.{Names}
+use Rattle.plank_rules.specs.declared.names.Declared.{Declared}
 use Rattle.plank_type.specs.declared.operands.Meaning.{Meaning}
 use Rattle.plank_rules.specs.Declarations.{number_of}
 use Rattle.plank_type.specs.Conditions.{relation_of, is_equality}
@@ -37,7 +37,7 @@ with_of variables (Some w) = reference_of variables w.first ∷ map (reference_o
 -- ---- operands of tests
 
 -- a field of a node
-abbrev pub field_meaning : Names → Reference → List ℕ → Meaning
+abbrev pub field_meaning : Declared → Reference → List ℕ → Meaning
 field_meaning names node field =
     option_map_or (λ f. Meaning.Flag (record { node = node; flag = f })) (number_of field names.flags)
     (option_map_or (λ p. Meaning.Pointer (PointerOperand.Field node p)) (number_of field names.pointers) Meaning.Nothing)
@@ -49,12 +49,12 @@ alone_meaning variables (ReferenceTree.Name name) =
     option_map_or (λ v. Meaning.Pointer (PointerOperand.Node (Reference.Variable v))) (number_of name.label variables)
     (Meaning.Key KeyOperand.Argument)
 
-abbrev pub node_meaning : Names → List (List ℕ) → ReferenceTree → Option Field → Meaning
+abbrev pub node_meaning : Declared → List (List ℕ) → ReferenceTree → Option Field → Meaning
 node_meaning names variables node None = alone_meaning variables node
 node_meaning names variables node (Some (Field.Key place)) = Meaning.Key (KeyOperand.Node (reference_of variables node))
 node_meaning names variables node (Some (Field.Name f)) = field_meaning names (reference_of variables node) f.label
 
-abbrev pub meaning_of : Names → List (List ℕ) → Operand → Meaning
+abbrev pub meaning_of : Declared → List (List ℕ) → Operand → Meaning
 meaning_of names variables (Operand.Node node field) = node_meaning names variables node field
 meaning_of names variables (Operand.Min place) = Meaning.Key KeyOperand.Min
 meaning_of names variables (Operand.Max place) = Meaning.Key KeyOperand.Max
@@ -83,13 +83,13 @@ test_alone set (Meaning.Key a) = no_test
 test_alone set (Meaning.Pointer a) = no_test
 test_alone set Meaning.Nothing = no_test
 
-abbrev pub test_ended : Names → List (List ℕ) → Meaning → AtomEnd → Test
+abbrev pub test_ended : Declared → List (List ℕ) → Meaning → AtomEnd → Test
 test_ended names variables first AtomEnd.Nothing = test_alone true first
 test_ended names variables first (AtomEnd.Compared comparison place second) =
     test_compared first comparison (meaning_of names variables second)
 test_ended names variables first (AtomEnd.In place node) = no_test
 
-abbrev pub test_of : Names → List (List ℕ) → TestTree → Test
+abbrev pub test_of : Declared → List (List ℕ) → TestTree → Test
 test_of names variables (TestTree.Not place node field) =
     test_alone false (field_meaning names (reference_of variables node) field.label)
 test_of names variables (TestTree.Atom atom) = test_ended names variables (meaning_of names variables atom.operand) atom.end
@@ -101,17 +101,17 @@ bind_to (Some to) from (Some pointer) = Some (record { to = to; from = from; poi
 bind_to to from pointer = None
 
 -- a variable that takes the value of a pointer field
-abbrev pub read_of : Names → List (List ℕ) → List ℕ → ReferenceTree → List ℕ → Option Bind
+abbrev pub read_of : Declared → List (List ℕ) → List ℕ → ReferenceTree → List ℕ → Option Bind
 read_of names variables variable node field =
     bind_to (number_of variable variables) (reference_of variables node) (number_of field names.pointers)
 
-abbrev pub bind_of : Names → List (List ℕ) → BindTree → Option Bind
+abbrev pub bind_of : Declared → List (List ℕ) → BindTree → Option Bind
 bind_of names variables b = read_of names variables b.variable.label b.node b.field.label
 
-abbrev pub binds_of : Names → List (List ℕ) → List BindTree → List Bind
+abbrev pub binds_of : Declared → List (List ℕ) → List BindTree → List Bind
 binds_of names variables binds = filter_map (bind_of names variables) binds
 
-abbrev pub written_of : Names → List (List ℕ) → Reference → List ℕ → Written → Option Write
+abbrev pub written_of : Declared → List (List ℕ) → Reference → List ℕ → Written → Option Write
 written_of names variables node field (Written.Flag truth) =
     option_map (λ f. Write.Flag node f truth.value) (number_of field names.flags)
 written_of names variables node field (Written.Null place) =
@@ -119,8 +119,8 @@ written_of names variables node field (Written.Null place) =
 written_of names variables node field (Written.Node to) =
     option_map (λ p. Write.Pointer node p (Value.Node (reference_of variables to))) (number_of field names.pointers)
 
-abbrev pub write_of : Names → List (List ℕ) → WriteTree → Option Write
+abbrev pub write_of : Declared → List (List ℕ) → WriteTree → Option Write
 write_of names variables w = written_of names variables (reference_of variables w.node) w.field.label w.value
 
-abbrev pub writes_of : Names → List (List ℕ) → List WriteTree → List Write
+abbrev pub writes_of : Declared → List (List ℕ) → List WriteTree → List Write
 writes_of names variables writes = filter_map (write_of names variables) writes

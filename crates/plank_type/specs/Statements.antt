@@ -22,7 +22,7 @@ use Rattle.plank_prog.specs.declared.blocks.Write.{Write}
 use Rattle.plank_prog.specs.declared.blocks.Block.{Block}
 use Rattle.plank_prog.specs.declared.methods.Action.{Action}
 use Rattle.plank_prog.specs.declared.methods.Location.{Location}
-use Rattle.plank_type.specs.declared.names.Names.{Names}
+use Rattle.plank_rules.specs.declared.names.Declared.{Declared}
 use Rattle.plank_type.specs.declared.exits.Exits.{Exits}
 use Rattle.plank_rules.specs.Declarations.{number_of}
 use Rattle.plank_type.specs.Operands.{reference_of, with_of, test_of, read_of, binds_of, writes_of}
@@ -51,11 +51,11 @@ idle_block met other = record { with = []; tests = []; binds = []; writes = []; 
 abbrev pub assigned : Option ℕ → (ℕ → Action) → ℕ → Action
 assigned to action next = option_map_or action to (Action.Block (idle_block next next))
 
-abbrev pub read_block : Names → List (List ℕ) → List ℕ → ReferenceTree → List ℕ → ℕ → Block
+abbrev pub read_block : Declared → List (List ℕ) → List ℕ → ReferenceTree → List ℕ → ℕ → Block
 read_block names variables variable node field next =
     record { with = []; tests = []; binds = option_to_list (read_of names variables variable node field); writes = []; yes = next; no = next }
 
-abbrev pub assignment : Names → List (List ℕ) → List ℕ → Assigned → ℕ → Action
+abbrev pub assignment : Declared → List (List ℕ) → List ℕ → Assigned → ℕ → Action
 assignment names variables variable (Assigned.New place) next =
     assigned (number_of variable variables) (λ to. Action.New to next) next
 assignment names variables variable (Assigned.Null place) next =
@@ -65,7 +65,7 @@ assignment names variables variable (Assigned.Node node None) next =
 assignment names variables variable (Assigned.Node node (Some field)) next =
     Action.Block (read_block names variables variable node field.label next)
 
-abbrev pub atomic_block : Names → List (List ℕ) → Option With → List TestLine → List BindTree → List WriteTree → ℕ → ℕ → Block
+abbrev pub atomic_block : Declared → List (List ℕ) → Option With → List TestLine → List BindTree → List WriteTree → ℕ → ℕ → Block
 atomic_block names variables with_names tests binds writes met other = record {
   with = with_of variables with_names;
   tests = map (λ line. test_of names variables line.test) tests;
@@ -76,7 +76,7 @@ atomic_block names variables with_names tests binds writes met other = record {
 }
 
 -- the tests of an `if` or a `while`
-abbrev pub tests_block : Names → List (List ℕ) → Tests → ℕ → ℕ → Block
+abbrev pub tests_block : Declared → List (List ℕ) → Tests → ℕ → ℕ → Block
 tests_block names variables tests met other = record {
   with = [];
   tests = test_of names variables tests.first ∷ map (test_of names variables) tests.others;
@@ -87,15 +87,15 @@ tests_block names variables tests met other = record {
 }
 
 -- a lock or unlock statement; without locks it does nothing
-abbrev pub lock_block : Names → Test → Write → ℕ → ℕ → Block
+abbrev pub lock_block : Declared → Test → Write → ℕ → ℕ → Block
 lock_block names test write met other =
     if names.has_lock then (record { with = []; tests = test ∷ []; binds = []; writes = write ∷ []; yes = met; no = other })
     else idle_block met other
 
-abbrev pub take_lock : Names → Reference → ℕ → ℕ → Block
+abbrev pub take_lock : Declared → Reference → ℕ → ℕ → Block
 take_lock names node met other = lock_block names (Test.LockFree node) (Write.TakeLock node) met other
 
-abbrev pub free_lock : Names → Reference → ℕ → ℕ → Block
+abbrev pub free_lock : Declared → Reference → ℕ → ℕ → Block
 free_lock names node met other = lock_block names (Test.LockOwn node) (Write.FreeLock node) met other
 
 -- ---- statements
@@ -105,7 +105,7 @@ free_lock names node met other = lock_block names (Test.LockOwn node) (Write.Fre
 pub record Part : Type 0 where
   pub size : ℕ
   pub entry : ℕ → Exits → ℕ
-  pub locations : Names → List (List ℕ) → ℕ → ℕ → Exits → List Location
+  pub locations : Declared → List (List ℕ) → ℕ → ℕ → Exits → List Location
 
 abbrev pub list_size : List Part → ℕ
 list_size [] = 0
@@ -116,14 +116,14 @@ list_entry [] at exits = exits.next
 list_entry (p ∷ ps) at exits = p.entry at exits
 
 -- each statement leads to the one after it
-abbrev pub list_locations : List Part → Names → List (List ℕ) → ℕ → ℕ → Exits → List Location
+abbrev pub list_locations : List Part → Declared → List (List ℕ) → ℕ → ℕ → Exits → List Location
 list_locations [] names variables count at exits = []
 list_locations (p ∷ ps) names variables count at exits =
     p.locations names variables count at (exits_before (list_entry ps (at + p.size) exits) exits)
     ++ list_locations ps names variables count (at + p.size) exits
 
 -- a statement of one location
-abbrev pub step_part : Place → (Names → List (List ℕ) → ℕ → ℕ → Exits → Action) → Part
+abbrev pub step_part : Place → (Declared → List (List ℕ) → ℕ → ℕ → Exits → Action) → Part
 step_part place action = record {
   size = 1;
   entry = λ at exits. at;
@@ -232,5 +232,5 @@ abbrev pub statements_entry : List Statement → ℕ → Exits → ℕ
 statements_entry statements = list_entry (map statement_part statements)
 
 -- the locations of statements that stand at a location
-abbrev pub statements_locations : List Statement → Names → List (List ℕ) → ℕ → ℕ → Exits → List Location
+abbrev pub statements_locations : List Statement → Declared → List (List ℕ) → ℕ → ℕ → Exits → List Location
 statements_locations statements = list_locations (map statement_part statements)

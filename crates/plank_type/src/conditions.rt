@@ -1,8 +1,7 @@
 ghost use Rattle.std.specs.Prelude.{◌≡◌, false, true, IfOk};
-ghost use Rattle.plank_type.specs.Numbers.{HasFewNames};
 ghost use Rattle.plank_type.specs.Conditions.{relation_of, is_equality, asked_field, asked_part, asked_of, condition_compared, condition_alone, condition_ended, within_scope, atom_condition, negated_condition, condition_of, conjunction_of, literal_of};
 
-use crate::names::{Names, number_of};
+use crate::names::Numbers;
 use plank_ast::{
     Atom, AtomEnd, Comparison, Condition as ConditionTree, Conjunction, Field, Literal, Name,
     Operand,
@@ -47,13 +46,12 @@ pub(crate) fn is_equality(comparison: Comparison) -> bool
 }
 
 // A field of the node.
-fn asked_field(names: &Names, field: &Name) -> Asked
-    requires few { HasFewNames names.now }
+fn asked_field(names: &Numbers<'_>, field: &Name) -> Asked
     ensures { result ≡ asked_field names.now field.now }
 {
-    match number_of(&field.label, names.flags.as_slice()) {
+    match names.flag(&field.label) {
         Some(flag) => Asked::Flag(flag),
-        None => match number_of(&field.label, names.pointers.as_slice()) {
+        None => match names.pointer(&field.label) {
             Some(pointer) => Asked::Pointer(pointer),
             None => Asked::Nothing,
         },
@@ -61,8 +59,7 @@ fn asked_field(names: &Names, field: &Name) -> Asked
 }
 
 // Only the walked key stands alone, and only the node before a dot.
-fn asked_part(names: &Names, field: &Option<Field>) -> Asked
-    requires few { HasFewNames names.now }
+fn asked_part(names: &Numbers<'_>, field: &Option<Field>) -> Asked
     ensures { result ≡ asked_part names.now field.now }
 {
     match field {
@@ -72,8 +69,7 @@ fn asked_part(names: &Names, field: &Option<Field>) -> Asked
     }
 }
 
-fn asked_of(names: &Names, operand: &Operand) -> Asked
-    requires few { HasFewNames names.now }
+fn asked_of(names: &Numbers<'_>, operand: &Operand) -> Asked
     ensures { result ≡ asked_of names.now operand.now }
 {
     match operand {
@@ -121,8 +117,7 @@ fn condition_alone(set: bool, asked: Asked) -> Condition
     }
 }
 
-fn condition_ended(names: &Names, first: Asked, end: &AtomEnd) -> Condition
-    requires few { HasFewNames names.now }
+fn condition_ended(names: &Numbers<'_>, first: Asked, end: &AtomEnd) -> Condition
     ensures { result ≡ condition_ended names.now first end.now }
 {
     match end {
@@ -147,16 +142,14 @@ fn within_scope(scope: Scope, condition: Condition) -> Condition
     }
 }
 
-fn atom_condition(names: &Names, scope: Scope, atom: &Atom) -> Condition
-    requires few { HasFewNames names.now }
+fn atom_condition(names: &Numbers<'_>, scope: Scope, atom: &Atom) -> Condition
     ensures { result ≡ atom_condition names.now scope atom.now }
 {
     let first = asked_of(names, &atom.operand);
     within_scope(scope, condition_ended(names, first, &atom.end))
 }
 
-fn negated_condition(names: &Names, scope: Scope, field: &Name) -> Condition
-    requires few { HasFewNames names.now }
+fn negated_condition(names: &Numbers<'_>, scope: Scope, field: &Name) -> Condition
     ensures { result ≡ negated_condition names.now scope field.now }
 {
     within_scope(scope, condition_alone(false, asked_field(names, field)))
@@ -166,11 +159,10 @@ fn negated_condition(names: &Names, scope: Scope, field: &Name) -> Condition
 #[cycle(conditions)]
 pub(crate) fn condition_of(
     alloc: Global,
-    names: &Names,
+    names: &Numbers<'_>,
     scope: Scope,
     condition: &ConditionTree,
 ) -> Result<Condition, OutOfMemory>
-    requires few { HasFewNames names.now }
     ensures { IfOk result (λ c. c ≡ condition_of names.now scope condition.now) }
 {
     let mut parts = Items::new(alloc);
@@ -184,11 +176,10 @@ pub(crate) fn condition_of(
 #[cycle(conditions)]
 fn conjunction_of(
     alloc: Global,
-    names: &Names,
+    names: &Numbers<'_>,
     scope: Scope,
     conjunction: &Conjunction,
 ) -> Result<Condition, OutOfMemory>
-    requires few { HasFewNames names.now }
     ensures { IfOk result (λ c. c ≡ conjunction_of names.now scope conjunction.now) }
 {
     let mut parts = Items::new(alloc);
@@ -202,11 +193,10 @@ fn conjunction_of(
 #[cycle(conditions)]
 fn literal_of(
     alloc: Global,
-    names: &Names,
+    names: &Numbers<'_>,
     scope: Scope,
     literal: &Literal,
 ) -> Result<Condition, OutOfMemory>
-    requires few { HasFewNames names.now }
     ensures { IfOk result (λ c. c ≡ literal_of names.now scope literal.now) }
 {
     match literal {

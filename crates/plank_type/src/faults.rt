@@ -5,10 +5,10 @@ use thiserror::Error;
 #[derive(Clone, Copy, Debug, PartialEq, Eq, Error)]
 pub enum TypeFault {
     /// A rule of typing is broken at this place, and none before it.
-    #[error("a rule of typing is broken")]
+    #[error("a rule of typing is broken at line {line}, column {column}: {kind:?}", line = .1.line, column = .1.column, kind = .0)]
     Broken(TypeKind, Place),
     /// There are so many of these, and may be so many. No rule of typing is broken.
-    #[error("there is too much of a thing")]
+    #[error("there are {count} {thing:?}, and at most {limit} may be", count = .1, thing = .0, limit = .2)]
     TooMany(Thing, u32, u32),
     /// Memory was refused; of the text nothing is said.
     #[error("out of memory")]

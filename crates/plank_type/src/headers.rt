@@ -1,43 +1,44 @@
 ghost use Rattle.std.specs.Prelude.{◌≡◌, length, map, IfOk};
-ghost use Rattle.plank_type.specs.Numbers.{HasFewNames, names_of};
+ghost use Rattle.plank_type.specs.Numbers.{names_of};
 ghost use Rattle.plank_type.specs.Headers.{walk_scope_of, freeze_scope_of, keep_scope_of, order_of, edge_of, pointer_of, keep_of, freeze_of, header_of};
 
 use crate::conditions::condition_of;
-use crate::names::{Names, copied, flag_names, is_same_name};
+use crate::names::{Numbers, copied, flag_names};
 use crate::start_nodes::{root_of, start_nodes_of};
 use plank_ast::{ConditionLine, Direction, NamedCondition, PointerLine, Text};
-use plank_base::{Label, OutOfMemory, Sequence};
+use plank_base::{Label, OutOfMemory};
 use plank_prog::{Condition, Header, Keep, KeyOrder, Pointer, Scope};
+use sqlite_items::Items;
 use std::alloc::Global;
 
-fn walk_scope_of(names: &Names) -> Scope
+fn walk_scope_of(names: &Numbers<'_>) -> Scope
     ensures { result ≡ walk_scope_of names.now }
 {
     Scope {
-        flags: names.flags.len(),
+        flags: names.flag_count(),
         pointers: 0,
         walked: true,
         visited: false,
     }
 }
 
-fn freeze_scope_of(names: &Names) -> Scope
+fn freeze_scope_of(names: &Numbers<'_>) -> Scope
     ensures { result ≡ freeze_scope_of names.now }
 {
     Scope {
-        flags: names.flags.len(),
+        flags: names.flag_count(),
         pointers: 0,
         walked: false,
         visited: false,
     }
 }
 
-fn keep_scope_of(names: &Names) -> Scope
+fn keep_scope_of(names: &Numbers<'_>) -> Scope
     ensures { result ≡ keep_scope_of names.now }
 {
     Scope {
-        flags: names.flags.len(),
-        pointers: names.pointers.len(),
+        flags: names.flag_count(),
+        pointers: names.pointer_count(),
         walked: true,
         visited: true,
     }
@@ -56,15 +57,14 @@ fn order_of(direction: Direction) -> KeyOrder
 // The condition of the first edge of a pointer field.
 fn edge_of(
     alloc: Global,
-    names: &Names,
+    names: &Numbers<'_>,
     edges: &[NamedCondition],
     pointer: &Label,
 ) -> Result<Option<Condition>, OutOfMemory>
-    requires few { HasFewNames names.now }
     ensures { IfOk result (λ edge. edge ≡ edge_of names.now edges.now pointer.now) }
 {
     for line in edges {
-        if is_same_name(pointer, &line.name.label) {
+        if *pointer == line.name.label {
             let condition = condition_of(alloc, names, walk_scope_of(names), &line.condition)?;
             return Ok(Some(condition));
         }
@@ -74,11 +74,10 @@ fn edge_of(
 
 fn pointer_of(
     alloc: Global,
-    names: &Names,
+    names: &Numbers<'_>,
     edges: &[NamedCondition],
     line: &PointerLine,
 ) -> Result<Pointer, OutOfMemory>
-    requires few { HasFewNames names.now }
     ensures { IfOk result (λ pointer. pointer ≡ pointer_of names.now edges.now line.now) }
 {
     let name = copied(alloc, &line.name.label)?;
@@ -92,22 +91,20 @@ fn pointer_of(
 
 fn pointers_of(
     alloc: Global,
-    names: &Names,
+    names: &Numbers<'_>,
     edges: &[NamedCondition],
     lines: &[PointerLine],
-) -> Result<Sequence<Pointer>, OutOfMemory>
-    requires few { HasFewNames names.now }
+) -> Result<Items<Pointer>, OutOfMemory>
     ensures { IfOk result (λ pointers. pointers ≡ map (pointer_of names.now edges.now) lines.now) }
 {
     let mut pointers = Vec::new(alloc);
     for line in lines {
         pointers.push(pointer_of(alloc, names, edges, line)?)?;
     }
-    Ok(Sequence::from_vec(pointers))
+    Ok(Items::from_vec(pointers))
 }
 
-fn keep_of(alloc: Global, names: &Names, line: &NamedCondition) -> Result<Keep, OutOfMemory>
-    requires few { HasFewNames names.now }
+fn keep_of(alloc: Global, names: &Numbers<'_>, line: &NamedCondition) -> Result<Keep, OutOfMemory>
     ensures { IfOk result (λ keep. keep ≡ keep_of names.now line.now) }
 {
     let name = copied(alloc, &line.name.label)?;
@@ -117,25 +114,23 @@ fn keep_of(alloc: Global, names: &Names, line: &NamedCondition) -> Result<Keep, 
 
 fn keeps_of(
     alloc: Global,
-    names: &Names,
+    names: &Numbers<'_>,
     lines: &[NamedCondition],
-) -> Result<Sequence<Keep>, OutOfMemory>
-    requires few { HasFewNames names.now }
+) -> Result<Items<Keep>, OutOfMemory>
     ensures { IfOk result (λ keeps. keeps ≡ map (keep_of names.now) lines.now) }
 {
     let mut keeps = Vec::new(alloc);
     for line in lines {
         keeps.push(keep_of(alloc, names, line)?)?;
     }
-    Ok(Sequence::from_vec(keeps))
+    Ok(Items::from_vec(keeps))
 }
 
 fn freeze_of(
     alloc: Global,
-    names: &Names,
+    names: &Numbers<'_>,
     line: &Option<ConditionLine>,
 ) -> Result<Option<Condition>, OutOfMemory>
-    requires few { HasFewNames names.now }
     ensures { IfOk result (λ freeze. freeze ≡ freeze_of names.now line.now) }
 {
     match line {
@@ -148,8 +143,11 @@ fn freeze_of(
 }
 
 /// The header of a text whose names are few enough, and are these.
-pub(crate) fn header_of(alloc: Global, names: &Names, text: &Text) -> Result<Header, OutOfMemory>
-    requires few { HasFewNames names.now }
+pub(crate) fn header_of(
+    alloc: Global,
+    names: &Numbers<'_>,
+    text: &Text,
+) -> Result<Header, OutOfMemory>
     requires names { names.now ≡ names_of text.now }
     ensures { IfOk result (λ header. header ≡ header_of text.now) }
 {
@@ -167,9 +165,9 @@ pub(crate) fn header_of(alloc: Global, names: &Names, text: &Text) -> Result<Hea
     Ok(Header {
         flags,
         pointers,
-        has_lock: names.has_lock,
+        has_lock: names.has_lock(),
         nodes,
-        root: root_of(names.nodes.as_slice(), text.roots.as_slice()),
+        root: root_of(names, text.roots.as_slice()),
         holds,
         keeps,
         freeze,

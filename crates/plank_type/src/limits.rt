@@ -2,14 +2,14 @@ ghost use Rattle.std.specs.Prelude.{◌≡◌, ◌≤◌, length, sum_by};
 ghost use Rattle.plank_base.specs.declared.limits.TheConstants.{FLAGS_LIMIT, POINTERS_LIMIT};
 ghost use Rattle.plank_prog.specs.Methods.{site_count};
 ghost use Rattle.plank_rules.specs.Declarations.{declared_variables};
-ghost use Rattle.plank_type.specs.Limits.{told, past_limit, first_given, variables_excess, header_excess, methods_excess, text_size, text_excess, sites_excess, facts_excess, method_facts_excess, program_excess};
+ghost use Rattle.plank_type.specs.Limits.{told, past_limit, first_given, variables_limit, variables_excess, header_excess, methods_excess, text_size, text_excess, sites_excess, facts_excess, method_facts_excess, program_excess};
 ghost use Rattle.plank_type.specs.Methods.{method_size};
 
 use crate::sizes::statements_size;
 use plank_ast::{Method as MethodTree, Text};
 use plank_base::{
-    EFFECT_FACTS_LIMIT, FLAGS_LIMIT, LOCATIONS_LIMIT, METHODS_LIMIT, NODES_LIMIT, POINTERS_LIMIT,
-    SITES_LIMIT, Thing, VARIABLES_LIMIT,
+    EFFECT_FACTS_LIMIT, FLAGS_LIMIT, FROZEN_VARIABLES_LIMIT, LOCATIONS_LIMIT, METHODS_LIMIT,
+    NODES_LIMIT, POINTERS_LIMIT, SITES_LIMIT, Thing, VARIABLES_LIMIT,
 };
 use plank_prog::{Action, Header, Method};
 
@@ -47,22 +47,33 @@ fn past_limit(thing: Thing, count: u32, limit: u32) -> Option<Excess>
     }
 }
 
-fn variables_excess(method: &MethodTree) -> Option<Excess>
-    ensures { result ≡ variables_excess method.now }
+// How many variables a method of the text may have.
+fn variables_limit(text: &Text) -> u32
+    ensures { result ≡ variables_limit text.now }
+{
+    if text.freeze.is_some() {
+        FROZEN_VARIABLES_LIMIT
+    } else {
+        VARIABLES_LIMIT
+    }
+}
+
+fn variables_excess(limit: u32, method: &MethodTree) -> Option<Excess>
+    ensures { result ≡ variables_excess limit method.now }
 {
     let count = match &method.variables {
         Some(variables) => told(variables.others.len()).saturating_add(1),
         None => 0,
     };
-    past_limit(Thing::Variables, count, VARIABLES_LIMIT)
+    past_limit(Thing::Variables, count, limit)
 }
 
 // The variables of the first of these methods that has too many.
-fn first_variables_excess(methods: &[MethodTree]) -> Option<Excess>
-    ensures { result ≡ first_given variables_excess methods.now }
+fn first_variables_excess(limit: u32, methods: &[MethodTree]) -> Option<Excess>
+    ensures { result ≡ first_given (variables_excess limit) methods.now }
 {
     for method in methods {
-        if let Some(excess) = variables_excess(method) {
+        if let Some(excess) = variables_excess(limit, method) {
             return Some(excess);
         }
     }
@@ -77,10 +88,11 @@ fn methods_excess(text: &Text) -> Option<Excess>
     if let Some(excess) = past_limit(Thing::Methods, count, METHODS_LIMIT) {
         return Some(excess);
     }
-    if let Some(excess) = variables_excess(&text.methods.first) {
+    let limit = variables_limit(text);
+    if let Some(excess) = variables_excess(limit, &text.methods.first) {
         return Some(excess);
     }
-    first_variables_excess(others)
+    first_variables_excess(limit, others)
 }
 
 fn header_excess(text: &Text) -> Option<Excess>

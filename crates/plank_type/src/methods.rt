@@ -1,20 +1,23 @@
 ghost use Rattle.std.specs.Prelude.{◌≡◌, ◌≤◌, ◌∷◌, All, length, map, IfOk};
 ghost use Rattle.plank_rules.specs.Declarations.{variable_line, variables_of};
-ghost use Rattle.plank_type.specs.Numbers.{HasFewNames, names_of};
+ghost use Rattle.plank_base.specs.declared.limits.TheConstants.{VARIABLES_LIMIT, LOCATIONS_LIMIT};
+ghost use Rattle.plank_type.specs.Numbers.{names_of};
+ghost use Rattle.plank_type.specs.Statements.{statements_size, statements_locations};
 ghost use Rattle.plank_type.specs.Limits.{IsSmall};
-ghost use Rattle.plank_type.specs.Methods.{kind_word, operation_of, method_of, methods_of};
+ghost use Rattle.plank_type.specs.Methods.{end_exits, kind_word, kind_of, method_of, methods_of};
 
 use crate::exits::Exits;
-use crate::names::{Names, copied};
+use crate::names::{Numbers, VariableNumbers, copied};
 use crate::sizes::statements_size;
 use crate::statements::add_statements;
 use crate::steps::Setting;
-use plank_ast::{Method as MethodTree, Text, Variables};
-use plank_base::{Label, Op, OutOfMemory, Sequence};
-use plank_prog::Method;
+use plank_ast::{Method as MethodTree, Statement, Text, Variables};
+use plank_base::{Label, Op, OutOfMemory};
+use plank_prog::{Location, Method, MethodKind};
+use sqlite_items::Items;
 use std::alloc::Global;
 
-fn line_labels(alloc: Global, line: &Variables) -> Result<Sequence<Label>, OutOfMemory>
+fn line_labels(alloc: Global, line: &Variables) -> Result<Items<Label>, OutOfMemory>
     ensures { IfOk result (λ labels. labels ≡ map (λ n. n.label) (variable_line line.now)) }
 {
     let mut labels = Vec::new(alloc);
@@ -22,29 +25,32 @@ fn line_labels(alloc: Global, line: &Variables) -> Result<Sequence<Label>, OutOf
     for name in line.others.as_slice() {
         labels.push(copied(alloc, &name.label)?)?;
     }
-    Ok(Sequence::from_vec(labels))
+    Ok(Items::from_vec(labels))
 }
 
 // The variables that a method declares.
-fn variables_of(alloc: Global, method: &MethodTree) -> Result<Sequence<Label>, OutOfMemory>
+fn variables_of(alloc: Global, method: &MethodTree) -> Result<Items<Label>, OutOfMemory>
     ensures { IfOk result (λ labels. labels ≡ variables_of method.now) }
 {
     match &method.variables {
         Some(line) => line_labels(alloc, line),
-        None => Ok(Sequence::new(alloc)),
+        None => Ok(Items::new(alloc)),
     }
 }
 
-fn operation_of(word: &Label) -> Op
-    ensures { result ≡ operation_of word.now }
+fn kind_of(word: &Label) -> MethodKind
+    ensures { result ≡ kind_of word.now }
 {
     if word.as_bytes() == b"contains".as_slice() {
-        return Op::Contains;
+        return MethodKind::Set(Op::Contains);
     }
     if word.as_bytes() == b"insert".as_slice() {
-        return Op::Insert;
+        return MethodKind::Set(Op::Insert);
     }
-    Op::Delete
+    if word.as_bytes() == b"delete".as_slice() {
+        return MethodKind::Set(Op::Delete);
+    }
+    MethodKind::Upkeep
 }
 
 // The word that says what a method does.
@@ -57,18 +63,24 @@ fn kind_word(method: &MethodTree) -> &Label
     }
 }
 
-fn method_of(alloc: Global, names: &Names, method: &MethodTree) -> Result<Method, OutOfMemory>
-    requires few { HasFewNames names.now }
-    requires small { IsSmall method.now }
-    ensures { IfOk result (λ m. m ≡ method_of names.now method.now) }
+// The locations of a method with these variables.
+fn locations_of(
+    alloc: Global,
+    names: &Numbers<'_>,
+    labels: &[Label],
+    statements: &[Statement],
+) -> Result<Items<Location>, OutOfMemory>
+    requires variables { length labels.now ≤ VARIABLES_LIMIT }
+    requires locations { statements_size statements.now ≤ LOCATIONS_LIMIT }
+    ensures { IfOk result (λ ls. ls ≡ statements_locations statements.now names.now labels.now
+        (statements_size statements.now) 0 (end_exits (statements_size statements.now))) }
 {
-    let variables = variables_of(alloc, method)?;
-    let statements = method.statements.as_slice();
     let count = statements_size(statements);
+    let variables = VariableNumbers::new(labels);
     let setting = Setting {
         alloc,
         names,
-        variables: variables.as_slice(),
+        variables: &variables,
         locations: count,
     };
     let mut locations = Vec::new(alloc);
@@ -79,22 +91,35 @@ fn method_of(alloc: Global, names: &Names, method: &MethodTree) -> Result<Method
         0,
         Exits::of_method(count),
     )?;
+    Ok(Items::from_vec(locations))
+}
+
+fn method_of(alloc: Global, names: &Numbers<'_>, method: &MethodTree) -> Result<Method, OutOfMemory>
+    requires small { IsSmall method.now }
+    ensures { IfOk result (λ m. m ≡ method_of names.now method.now) }
+{
+    let variables = variables_of(alloc, method)?;
+    let locations = locations_of(
+        alloc,
+        names,
+        variables.as_slice(),
+        method.statements.as_slice(),
+    )?;
     Ok(Method {
         name: copied(alloc, &method.name.label)?,
-        op: operation_of(kind_word(method)),
+        kind: kind_of(kind_word(method)),
         arg: copied(alloc, &method.argument.label)?,
         variables,
-        locations: Sequence::from_vec(locations),
+        locations,
     })
 }
 
 /// The methods of a text that is within the limits.
 pub(crate) fn methods_of(
     alloc: Global,
-    names: &Names,
+    names: &Numbers<'_>,
     text: &Text,
-) -> Result<Sequence<Method>, OutOfMemory>
-    requires few { HasFewNames names.now }
+) -> Result<Items<Method>, OutOfMemory>
     requires names { names.now ≡ names_of text.now }
     requires first { IsSmall text.now.methods.first }
     requires others { All IsSmall text.now.methods.others }
@@ -105,5 +130,5 @@ pub(crate) fn methods_of(
     for method in text.methods.others.as_slice() {
         methods.push(method_of(alloc, names, method)?)?;
     }
-    Ok(Sequence::from_vec(methods))
+    Ok(Items::from_vec(methods))
 }

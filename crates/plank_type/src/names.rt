@@ -1,42 +1,147 @@
-ghost use Rattle.std.specs.Prelude.{◌≡◌, ◌≤◌, ◌<◌, length, map, IfOk, IfSome};
-ghost use Rattle.plank_rules.specs.Declarations.{same_name, number_of};
-ghost use Rattle.plank_type.specs.Numbers.{names_of};
+//! Numbers in the place of names: of those that the header declares, and of the variables of a method.
+ghost use Rattle.std.specs.Prelude.{◌≡◌, ◌≤◌, ◌<◌, length, map, IfOk};
+ghost use Rattle.plank_base.specs.declared.limits.TheConstants.{FLAGS_LIMIT, VARIABLES_LIMIT};
+ghost use Rattle.plank_rules.specs.Declarations.{number_of};
+ghost use Rattle.plank_type.specs.Numbers.{names_of, HasFewNames};
 
-use plank_ast::{FlagLine, PointerLine, StartLine, Text};
-use plank_base::{Label, OutOfMemory, Sequence};
+use plank_ast::{FlagLine, PointerLine, Text};
+use plank_base::{Label, OutOfMemory};
+use plank_rules::Declared;
+use sqlite_items::Items;
 use std::alloc::Global;
+use std::marker::Model;
 
-/// The names that a header declares, of each kind in the order of their declarations.
+/// The numbers of the names that the header of a text declares. Each name is declared once, and of each
+/// kind there are no more than the limit. Contracts see the names.
 #[derive(Debug, Drop)]
-pub(crate) struct Names {
-    pub flags: Sequence<Label>,
-    pub pointers: Sequence<Label>,
-    pub nodes: Sequence<Label>,
-    pub has_lock: bool,
+pub(crate) struct Numbers<'a> {
+    text: &'a Text,
+    declared: &'a Declared<'a>,
 }
 
-/// Whether two names have the same bytes.
-pub(crate) fn is_same_name(name: &Label, other: &Label) -> bool
-    ensures { result ≡ same_name name.now other.now }
-{
-    *name.as_bytes() == *other.as_bytes()
+impl<'a> Model for Numbers<'a> {
+    ghost use Rattle.std.specs.Prelude.{◌≡◌};
+    ghost use Rattle.plank_rules.specs.declared.names.Declared as table;
+    ghost use Rattle.plank_type.specs.Numbers.{names_of, HasFewNames};
+
+    ghost Value = { table.Declared };
+
+    ghost view = { λ n. n.declared.now };
+
+    ghost invariant = { λ n. (n.declared.now ≡ names_of n.text.now) × HasFewNames n.declared.now };
+}
+
+impl<'a> Numbers<'a> {
+    pub(crate) fn new(text: &'a Text, declared: &'a Declared<'a>) -> Numbers<'a>
+        requires names { declared.now ≡ names_of text.now }
+        requires few { HasFewNames declared.now }
+        ensures { result ≡ declared.now }
+    {
+        Numbers { text, declared }
+    }
+
+    pub(crate) fn flag(&self, name: &Label) -> Option<u8>
+        ensures { result ≡ number_of name.now self.now.flags }
+    {
+        match self.declared.flags.number(name.as_bytes()) {
+            Some(number) => Some(number as u8),
+            None => None,
+        }
+    }
+
+    pub(crate) fn pointer(&self, name: &Label) -> Option<u8>
+        ensures { result ≡ number_of name.now self.now.pointers }
+    {
+        match self.declared.pointers.number(name.as_bytes()) {
+            Some(number) => Some(number as u8),
+            None => None,
+        }
+    }
+
+    /// The number of a start node.
+    pub(crate) fn node(&self, name: &Label) -> Option<u32>
+        ensures { result ≡ number_of name.now self.now.nodes }
+    {
+        match self.declared.nodes.number(name.as_bytes()) {
+            Some(number) => Some(number as u32),
+            None => None,
+        }
+    }
+
+    pub(crate) fn flag_count(&self) -> usize
+        ensures { result ≡ length self.now.flags }
+    {
+        self.declared.flags.len()
+    }
+
+    pub(crate) fn pointer_count(&self) -> usize
+        ensures { result ≡ length self.now.pointers }
+    {
+        self.declared.pointers.len()
+    }
+
+    pub(crate) fn has_lock(&self) -> bool
+        ensures { result ≡ self.now.has_lock }
+    {
+        self.declared.has_lock
+    }
+
+    /// The lines that declare the flags, in their order.
+    pub(crate) fn flags(&self) -> &[FlagLine]
+        ensures names { map (λ line. line.name.label) result.now ≡ self.now.flags }
+        ensures few { length result.now ≤ FLAGS_LIMIT }
+    {
+        self.text.flags.as_slice()
+    }
+
+    /// The lines that declare the pointers, in their order.
+    pub(crate) fn pointers(&self) -> &[PointerLine]
+        ensures { map (λ line. line.name.label) result.now ≡ self.now.pointers }
+    {
+        self.text.pointers.as_slice()
+    }
+}
+
+/// The numbers of the variables of a method, of which there are no more than the limit. They are so few
+/// that a search along them is as fast as any table. Contracts see the names.
+#[derive(Debug, Drop)]
+pub(crate) struct VariableNumbers<'a> {
+    labels: &'a [Label],
+}
+
+impl<'a> Model for VariableNumbers<'a> {
+    ghost use Rattle.std.specs.Prelude.{ℕ, List, ◌≤◌, length};
+    ghost use Rattle.plank_base.specs.declared.limits.TheConstants.{VARIABLES_LIMIT};
+
+    ghost Value = { List (List ℕ) };
+
+    ghost view = { λ v. v.labels.now };
+
+    ghost invariant = { λ v. length v.labels.now ≤ VARIABLES_LIMIT };
+}
+
+impl<'a> VariableNumbers<'a> {
+    pub(crate) fn new(labels: &'a [Label]) -> VariableNumbers<'a>
+        requires { length labels.now ≤ VARIABLES_LIMIT }
+        ensures { result ≡ labels.now }
+    {
+        VariableNumbers { labels }
+    }
+
+    pub(crate) fn number(&self, name: &Label) -> Option<u8>
+        ensures { result ≡ number_of name.now self.now }
+    {
+        match place_of(name, self.labels) {
+            Some(number) => Some(number as u8),
+            None => None,
+        }
+    }
 }
 
 fn place_of(name: &Label, names: &[Label]) -> Option<usize>
     ensures { result ≡ number_of name.now names.now }
 {
-    names.iter().position(|other| is_same_name(name, other))
-}
-
-/// The first place of a name among names.
-pub(crate) fn number_of(name: &Label, names: &[Label]) -> Option<u8>
-    requires { length names.now ≤ 255 }
-    ensures { result ≡ number_of name.now names.now }
-{
-    match place_of(name, names) {
-        Some(number) => Some(number as u8),
-        None => None,
-    }
+    names.iter().position(|other| *name == *other)
 }
 
 /// The same name once more.
@@ -46,47 +151,13 @@ pub(crate) fn copied(alloc: Global, name: &Label) -> Result<Label, OutOfMemory>
     Label::new(alloc, name.as_bytes())
 }
 
-pub(crate) fn flag_names(alloc: Global, lines: &[FlagLine]) -> Result<Sequence<Label>, OutOfMemory>
+/// The names of the flags, in the order of their lines.
+pub(crate) fn flag_names(alloc: Global, lines: &[FlagLine]) -> Result<Items<Label>, OutOfMemory>
     ensures { IfOk result (λ names. names ≡ map (λ line. line.name.label) lines.now) }
 {
     let mut names = Vec::new(alloc);
     for line in lines {
         names.push(copied(alloc, &line.name.label)?)?;
     }
-    Ok(Sequence::from_vec(names))
-}
-
-fn pointer_names(alloc: Global, lines: &[PointerLine]) -> Result<Sequence<Label>, OutOfMemory>
-    ensures { IfOk result (λ names. names ≡ map (λ line. line.name.label) lines.now) }
-{
-    let mut names = Vec::new(alloc);
-    for line in lines {
-        names.push(copied(alloc, &line.name.label)?)?;
-    }
-    Ok(Sequence::from_vec(names))
-}
-
-fn start_names(alloc: Global, lines: &[StartLine]) -> Result<Sequence<Label>, OutOfMemory>
-    ensures { IfOk result (λ names. names ≡ map (λ line. line.name.label) lines.now) }
-{
-    let mut names = Vec::new(alloc);
-    for line in lines {
-        names.push(copied(alloc, &line.name.label)?)?;
-    }
-    Ok(Sequence::from_vec(names))
-}
-
-/// The names that the header of a text declares.
-pub(crate) fn names_of(alloc: Global, text: &Text) -> Result<Names, OutOfMemory>
-    ensures { IfOk result (λ names. names ≡ names_of text.now) }
-{
-    let flags = flag_names(alloc, text.flags.as_slice())?;
-    let pointers = pointer_names(alloc, text.pointers.as_slice())?;
-    let nodes = start_names(alloc, text.starts.as_slice())?;
-    Ok(Names {
-        flags,
-        pointers,
-        nodes,
-        has_lock: text.lock.is_some(),
-    })
+    Ok(Items::from_vec(names))
 }

@@ -2,17 +2,17 @@ ghost use Rattle.std.specs.Prelude.{◌≡◌, ◌≤◌, ◌∷◌, ◌++◌, l
 ghost use Rattle.std.specs.Option.{option_to_list};
 ghost use Rattle.plank_base.specs.declared.limits.TheConstants.{VARIABLES_LIMIT};
 ghost use Rattle.plank_prog.specs.Blocks.{is_field};
-ghost use Rattle.plank_type.specs.Numbers.{HasFewNames};
 ghost use Rattle.plank_type.specs.Operands.{reference_of, with_of, field_meaning, alone_meaning, node_meaning, meaning_of, pointers_compared, test_compared, test_alone, test_ended, test_of, bind_to, read_of, bind_of, binds_of, written_of, write_of, writes_of, no_test};
 
 use crate::conditions::{is_equality, relation_of};
-use crate::names::{Names, number_of};
+use crate::names::{Numbers, VariableNumbers};
 use plank_ast::{
     AtomEnd, Bind as BindTree, Comparison, Field, Operand, Reference as ReferenceTree,
     Test as TestTree, TestLine, With, Write as WriteTree, Written,
 };
-use plank_base::{Label, OutOfMemory, Sequence};
+use plank_base::{Label, OutOfMemory};
 use plank_prog::{Bind, FlagOperand, KeyOperand, PointerOperand, Reference, Test, Value, Write};
+use sqlite_items::Items;
 use std::alloc::Global;
 
 /// What an operand of a test stands for.
@@ -26,13 +26,12 @@ pub(crate) enum Meaning {
 }
 
 /// A node's name, by the variables of the method.
-pub(crate) fn reference_of(variables: &[Label], node: &ReferenceTree) -> Reference
-    requires variables { length variables.now ≤ VARIABLES_LIMIT }
+pub(crate) fn reference_of(variables: &VariableNumbers<'_>, node: &ReferenceTree) -> Reference
     ensures { result ≡ reference_of variables.now node.now }
 {
     match node {
         ReferenceTree::Root(_) => Reference::Root,
-        ReferenceTree::Name(name) => match number_of(&name.label, variables) {
+        ReferenceTree::Name(name) => match variables.number(&name.label) {
             Some(variable) => Reference::Variable(variable),
             None => Reference::Root,
         },
@@ -41,10 +40,9 @@ pub(crate) fn reference_of(variables: &[Label], node: &ReferenceTree) -> Referen
 
 fn with_names(
     alloc: Global,
-    variables: &[Label],
+    variables: &VariableNumbers<'_>,
     with: &With,
-) -> Result<Sequence<Reference>, OutOfMemory>
-    requires variables { length variables.now ≤ VARIABLES_LIMIT }
+) -> Result<Items<Reference>, OutOfMemory>
     ensures { IfOk result (λ names. names ≡ reference_of variables.now with.now.first ∷ map (reference_of variables.now) with.now.others) }
 {
     let mut names = Vec::new(alloc);
@@ -52,32 +50,30 @@ fn with_names(
     for node in with.others.as_slice() {
         names.push(reference_of(variables, node))?;
     }
-    Ok(Sequence::from_vec(names))
+    Ok(Items::from_vec(names))
 }
 
 /// The further names of a block.
 pub(crate) fn with_of(
     alloc: Global,
-    variables: &[Label],
+    variables: &VariableNumbers<'_>,
     with: &Option<With>,
-) -> Result<Sequence<Reference>, OutOfMemory>
-    requires variables { length variables.now ≤ VARIABLES_LIMIT }
+) -> Result<Items<Reference>, OutOfMemory>
     ensures { IfOk result (λ names. names ≡ with_of variables.now with.now) }
 {
     match with {
         Some(with) => with_names(alloc, variables, with),
-        None => Ok(Sequence::new(alloc)),
+        None => Ok(Items::new(alloc)),
     }
 }
 
 // A field of a node.
-fn field_meaning(names: &Names, node: Reference, field: &Label) -> Meaning
-    requires few { HasFewNames names.now }
+fn field_meaning(names: &Numbers<'_>, node: Reference, field: &Label) -> Meaning
     ensures { result ≡ field_meaning names.now node field.now }
 {
-    match number_of(field, names.flags.as_slice()) {
+    match names.flag(field) {
         Some(flag) => Meaning::Flag(FlagOperand { node, flag }),
-        None => match number_of(field, names.pointers.as_slice()) {
+        None => match names.pointer(field) {
             Some(pointer) => Meaning::Pointer(PointerOperand::Field { node, pointer }),
             None => Meaning::Nothing,
         },
@@ -85,13 +81,12 @@ fn field_meaning(names: &Names, node: Reference, field: &Label) -> Meaning
 }
 
 // A name alone is a node's, or that of the argument.
-fn alone_meaning(variables: &[Label], node: &ReferenceTree) -> Meaning
-    requires variables { length variables.now ≤ VARIABLES_LIMIT }
+fn alone_meaning(variables: &VariableNumbers<'_>, node: &ReferenceTree) -> Meaning
     ensures { result ≡ alone_meaning variables.now node.now }
 {
     match node {
         ReferenceTree::Root(_) => Meaning::Pointer(PointerOperand::Node(Reference::Root)),
-        ReferenceTree::Name(name) => match number_of(&name.label, variables) {
+        ReferenceTree::Name(name) => match variables.number(&name.label) {
             Some(variable) => {
                 Meaning::Pointer(PointerOperand::Node(Reference::Variable(variable)))
             }
@@ -101,13 +96,11 @@ fn alone_meaning(variables: &[Label], node: &ReferenceTree) -> Meaning
 }
 
 fn node_meaning(
-    names: &Names,
-    variables: &[Label],
+    names: &Numbers<'_>,
+    variables: &VariableNumbers<'_>,
     node: &ReferenceTree,
     field: &Option<Field>,
 ) -> Meaning
-    requires few { HasFewNames names.now }
-    requires variables { length variables.now ≤ VARIABLES_LIMIT }
     ensures { result ≡ node_meaning names.now variables.now node.now field.now }
 {
     match field {
@@ -119,9 +112,7 @@ fn node_meaning(
     }
 }
 
-fn meaning_of(names: &Names, variables: &[Label], operand: &Operand) -> Meaning
-    requires few { HasFewNames names.now }
-    requires variables { length variables.now ≤ VARIABLES_LIMIT }
+fn meaning_of(names: &Numbers<'_>, variables: &VariableNumbers<'_>, operand: &Operand) -> Meaning
     ensures { result ≡ meaning_of names.now variables.now operand.now }
 {
     match operand {
@@ -192,9 +183,12 @@ fn test_alone(set: bool, meaning: Meaning) -> Test
     }
 }
 
-fn test_ended(names: &Names, variables: &[Label], first: Meaning, end: &AtomEnd) -> Test
-    requires few { HasFewNames names.now }
-    requires variables { length variables.now ≤ VARIABLES_LIMIT }
+fn test_ended(
+    names: &Numbers<'_>,
+    variables: &VariableNumbers<'_>,
+    first: Meaning,
+    end: &AtomEnd,
+) -> Test
     ensures { result ≡ test_ended names.now variables.now first end.now }
 {
     match end {
@@ -209,9 +203,7 @@ fn test_ended(names: &Names, variables: &[Label], first: Meaning, end: &AtomEnd)
 }
 
 /// A test, with numbers in the place of names.
-pub(crate) fn test_of(names: &Names, variables: &[Label], test: &TestTree) -> Test
-    requires few { HasFewNames names.now }
-    requires variables { length variables.now ≤ VARIABLES_LIMIT }
+pub(crate) fn test_of(names: &Numbers<'_>, variables: &VariableNumbers<'_>, test: &TestTree) -> Test
     ensures { result ≡ test_of names.now variables.now test.now }
 {
     match test {
@@ -229,19 +221,17 @@ pub(crate) fn test_of(names: &Names, variables: &[Label], test: &TestTree) -> Te
 /// The tests of an atomic block.
 pub(crate) fn tests_of_lines(
     alloc: Global,
-    names: &Names,
-    variables: &[Label],
+    names: &Numbers<'_>,
+    variables: &VariableNumbers<'_>,
     lines: &[TestLine],
-) -> Result<Sequence<Test>, OutOfMemory>
-    requires few { HasFewNames names.now }
-    requires variables { length variables.now ≤ VARIABLES_LIMIT }
+) -> Result<Items<Test>, OutOfMemory>
     ensures { IfOk result (λ tests. tests ≡ map (λ line. test_of names.now variables.now line.test) lines.now) }
 {
     let mut tests = Vec::new(alloc);
     for line in lines {
         tests.push(test_of(names, variables, &line.test))?;
     }
-    Ok(Sequence::from_vec(tests))
+    Ok(Items::from_vec(tests))
 }
 
 fn bind_to(to: Option<u8>, from: Reference, pointer: Option<u8>) -> Option<Bind>
@@ -255,25 +245,21 @@ fn bind_to(to: Option<u8>, from: Reference, pointer: Option<u8>) -> Option<Bind>
 
 /// A variable that takes the value of a pointer field.
 pub(crate) fn read_of(
-    names: &Names,
-    variables: &[Label],
+    names: &Numbers<'_>,
+    variables: &VariableNumbers<'_>,
     variable: &Label,
     node: &ReferenceTree,
     field: &Label,
 ) -> Option<Bind>
-    requires few { HasFewNames names.now }
-    requires variables { length variables.now ≤ VARIABLES_LIMIT }
     ensures { result ≡ read_of names.now variables.now variable.now node.now field.now }
 {
-    let to = number_of(variable, variables);
+    let to = variables.number(variable);
     let from = reference_of(variables, node);
-    let pointer = number_of(field, names.pointers.as_slice());
+    let pointer = names.pointer(field);
     bind_to(to, from, pointer)
 }
 
-fn bind_of(names: &Names, variables: &[Label], bind: &BindTree) -> Option<Bind>
-    requires few { HasFewNames names.now }
-    requires variables { length variables.now ≤ VARIABLES_LIMIT }
+fn bind_of(names: &Numbers<'_>, variables: &VariableNumbers<'_>, bind: &BindTree) -> Option<Bind>
     ensures { result ≡ bind_of names.now variables.now bind.now }
 {
     read_of(
@@ -288,19 +274,17 @@ fn bind_of(names: &Names, variables: &[Label], bind: &BindTree) -> Option<Bind>
 /// The binds of an atomic block.
 pub(crate) fn binds_of(
     alloc: Global,
-    names: &Names,
-    variables: &[Label],
+    names: &Numbers<'_>,
+    variables: &VariableNumbers<'_>,
     binds: &[BindTree],
-) -> Result<Sequence<Bind>, OutOfMemory>
-    requires few { HasFewNames names.now }
-    requires variables { length variables.now ≤ VARIABLES_LIMIT }
+) -> Result<Items<Bind>, OutOfMemory>
     ensures { IfOk result (λ out. out ≡ binds_of names.now variables.now binds.now) }
 {
     let mut out = Vec::new(alloc);
     for bind in binds {
         push_given(&mut out, bind_of(names, variables, bind))?;
     }
-    Ok(Sequence::from_vec(out))
+    Ok(Items::from_vec(out))
 }
 
 /// Adds an item where there is one.
@@ -314,19 +298,17 @@ pub(crate) fn push_given<T: Drop>(out: &mut Vec<T>, item: Option<T>) -> Result<(
 }
 
 fn written_of(
-    names: &Names,
-    variables: &[Label],
+    names: &Numbers<'_>,
+    variables: &VariableNumbers<'_>,
     node: Reference,
     field: &Label,
     value: &Written,
 ) -> Option<Write>
-    requires few { HasFewNames names.now }
-    requires variables { length variables.now ≤ VARIABLES_LIMIT }
     ensures { result ≡ written_of names.now variables.now node field.now value.now }
 {
     match value {
         Written::Flag(truth) => {
-            let flag = number_of(field, names.flags.as_slice())?;
+            let flag = names.flag(field)?;
             Some(Write::Flag {
                 node,
                 flag,
@@ -334,7 +316,7 @@ fn written_of(
             })
         }
         Written::Null(_) => {
-            let pointer = number_of(field, names.pointers.as_slice())?;
+            let pointer = names.pointer(field)?;
             Some(Write::Pointer {
                 node,
                 pointer,
@@ -342,7 +324,7 @@ fn written_of(
             })
         }
         Written::Node(to) => {
-            let pointer = number_of(field, names.pointers.as_slice())?;
+            let pointer = names.pointer(field)?;
             Some(Write::Pointer {
                 node,
                 pointer,
@@ -352,9 +334,11 @@ fn written_of(
     }
 }
 
-fn write_of(names: &Names, variables: &[Label], write: &WriteTree) -> Option<Write>
-    requires few { HasFewNames names.now }
-    requires variables { length variables.now ≤ VARIABLES_LIMIT }
+fn write_of(
+    names: &Numbers<'_>,
+    variables: &VariableNumbers<'_>,
+    write: &WriteTree,
+) -> Option<Write>
     ensures { result ≡ write_of names.now variables.now write.now }
 {
     let node = reference_of(variables, &write.node);
@@ -364,17 +348,15 @@ fn write_of(names: &Names, variables: &[Label], write: &WriteTree) -> Option<Wri
 /// The writes of an atomic block.
 pub(crate) fn writes_of(
     alloc: Global,
-    names: &Names,
-    variables: &[Label],
+    names: &Numbers<'_>,
+    variables: &VariableNumbers<'_>,
     writes: &[WriteTree],
-) -> Result<Sequence<Write>, OutOfMemory>
-    requires few { HasFewNames names.now }
-    requires variables { length variables.now ≤ VARIABLES_LIMIT }
+) -> Result<Items<Write>, OutOfMemory>
     ensures { IfOk result (λ out. out ≡ writes_of names.now variables.now writes.now) }
 {
     let mut out = Vec::new(alloc);
     for write in writes {
         push_given(&mut out, write_of(names, variables, write))?;
     }
-    Ok(Sequence::from_vec(out))
+    Ok(Items::from_vec(out))
 }

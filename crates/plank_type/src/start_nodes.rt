@@ -1,13 +1,13 @@
 ghost use Rattle.std.specs.Prelude.{◌≡◌, ◌≤◌, ◌<◌, ◌^◌, ◌&&◌, length, map, IfOk};
-ghost use Rattle.plank_base.specs.declared.limits.TheConstants.{FLAGS_LIMIT, NODES_LIMIT};
+ghost use Rattle.plank_base.specs.declared.limits.TheConstants.{FLAGS_LIMIT};
 ghost use Rattle.plank_rules.specs.Declarations.{same_name};
-ghost use Rattle.plank_type.specs.Numbers.{HasFewNames};
 ghost use Rattle.plank_type.specs.Headers.{start_key, is_set, starts_set, start_flags, node_of, start_pointer, start_node_of, root_of};
 
-use crate::names::{Names, copied, is_same_name, number_of};
-use plank_ast::{RootLine, StartItem, StartKey, StartLine, StartValue};
-use plank_base::{Key, Label, OutOfMemory, Sequence};
+use crate::names::{Numbers, copied};
+use plank_ast::{FlagLine, PointerLine, RootLine, StartItem, StartKey, StartLine, StartValue};
+use plank_base::{Key, Label, OutOfMemory};
 use plank_prog::StartNode;
+use sqlite_items::Items;
 use std::alloc::Global;
 
 fn start_key(key: StartKey) -> Key
@@ -32,7 +32,7 @@ fn is_set(value: &StartValue) -> bool
 fn sets(item: &StartItem, flag: &Label) -> bool
     ensures { result ≡ (same_name flag.now item.now.field.label && is_set item.now.value) }
 {
-    is_same_name(flag, &item.field.label) && is_set(&item.value)
+    *flag == item.field.label && is_set(&item.value)
 }
 
 // Whether a flag is given, and as true.
@@ -43,42 +43,37 @@ fn starts_set(items: &[StartItem], flag: &Label) -> bool
 }
 
 // Bit i for the i-th flag.
-fn start_flags(items: &[StartItem], flags: &[Label]) -> u8
+fn start_flags(items: &[StartItem], flags: &[FlagLine]) -> u8
     requires few { length flags.now ≤ FLAGS_LIMIT }
-    ensures value { result ≡ start_flags items.now flags.now }
+    ensures value { result ≡ start_flags items.now (map (λ line. line.name.label) flags.now) }
     ensures within { result < 2 ^ length flags.now }
 {
     match flags {
         [] => 0,
         [flag, others @ ..] => {
-            u8::from(starts_set(items, flag)) + 2 * start_flags(items, others)
+            u8::from(starts_set(items, &flag.name.label)) + 2 * start_flags(items, others)
         }
     }
 }
 
 // The number of the start node that a value names.
-fn node_of(nodes: &[Label], value: &StartValue) -> Option<u32>
-    requires few { length nodes.now ≤ NODES_LIMIT }
-    ensures { result ≡ node_of nodes.now value.now }
+fn node_of(names: &Numbers<'_>, value: &StartValue) -> Option<u32>
+    ensures { result ≡ node_of names.now.nodes value.now }
 {
     match value {
         StartValue::Flag(_) => None,
         StartValue::Null(_) => None,
-        StartValue::Node(name) => match number_of(&name.label, nodes) {
-            Some(node) => Some(u32::from(node)),
-            None => None,
-        },
+        StartValue::Node(name) => names.node(&name.label),
     }
 }
 
 // Where a pointer field leads; one that is not given is null.
-fn start_pointer(nodes: &[Label], items: &[StartItem], pointer: &Label) -> Option<u32>
-    requires few { length nodes.now ≤ NODES_LIMIT }
-    ensures { result ≡ start_pointer nodes.now items.now pointer.now }
+fn start_pointer(names: &Numbers<'_>, items: &[StartItem], pointer: &Label) -> Option<u32>
+    ensures { result ≡ start_pointer names.now.nodes items.now pointer.now }
 {
     for item in items {
-        if is_same_name(pointer, &item.field.label) {
-            return node_of(nodes, &item.value);
+        if *pointer == item.field.label {
+            return node_of(names, &item.value);
         }
     }
     None
@@ -86,26 +81,31 @@ fn start_pointer(nodes: &[Label], items: &[StartItem], pointer: &Label) -> Optio
 
 fn start_pointers(
     alloc: Global,
-    names: &Names,
+    names: &Numbers<'_>,
     items: &[StartItem],
-) -> Result<Sequence<Option<u32>>, OutOfMemory>
-    requires few { HasFewNames names.now }
-    ensures { IfOk result (λ pointers. pointers ≡ map (start_pointer names.now.nodes items.now) names.now.pointers) }
+    lines: &[PointerLine],
+) -> Result<Items<Option<u32>>, OutOfMemory>
+    ensures { IfOk result (λ pointers. pointers
+        ≡ map (λ line. start_pointer names.now.nodes items.now line.name.label) lines.now) }
 {
     let mut pointers = Vec::new(alloc);
-    for pointer in names.pointers.as_slice() {
-        pointers.push(start_pointer(names.nodes.as_slice(), items, pointer))?;
+    for line in lines {
+        pointers.push(start_pointer(names, items, &line.name.label))?;
     }
-    Ok(Sequence::from_vec(pointers))
+    Ok(Items::from_vec(pointers))
 }
 
-fn start_node_of(alloc: Global, names: &Names, line: &StartLine) -> Result<StartNode, OutOfMemory>
-    requires few { HasFewNames names.now }
+fn start_node_of(
+    alloc: Global,
+    names: &Numbers<'_>,
+    line: &StartLine,
+) -> Result<StartNode, OutOfMemory>
     ensures { IfOk result (λ node. node ≡ start_node_of names.now line.now) }
 {
+    let items = line.items.as_slice();
     let name = copied(alloc, &line.name.label)?;
-    let flags = start_flags(line.items.as_slice(), names.flags.as_slice());
-    let pointers = start_pointers(alloc, names, line.items.as_slice())?;
+    let flags = start_flags(items, names.flags());
+    let pointers = start_pointers(alloc, names, items, names.pointers())?;
     Ok(StartNode {
         name,
         key: start_key(line.key),
@@ -117,29 +117,24 @@ fn start_node_of(alloc: Global, names: &Names, line: &StartLine) -> Result<Start
 /// The nodes of the start heap.
 pub(crate) fn start_nodes_of(
     alloc: Global,
-    names: &Names,
+    names: &Numbers<'_>,
     lines: &[StartLine],
-) -> Result<Sequence<StartNode>, OutOfMemory>
-    requires few { HasFewNames names.now }
+) -> Result<Items<StartNode>, OutOfMemory>
     ensures { IfOk result (λ nodes. nodes ≡ map (start_node_of names.now) lines.now) }
 {
     let mut nodes = Vec::new(alloc);
     for line in lines {
         nodes.push(start_node_of(alloc, names, line)?)?;
     }
-    Ok(Sequence::from_vec(nodes))
+    Ok(Items::from_vec(nodes))
 }
 
 /// The number of the node that the first root line names.
-pub(crate) fn root_of(nodes: &[Label], roots: &[RootLine]) -> u32
-    requires few { length nodes.now ≤ NODES_LIMIT }
-    ensures { result ≡ root_of nodes.now roots.now }
+pub(crate) fn root_of(names: &Numbers<'_>, roots: &[RootLine]) -> u32
+    ensures { result ≡ root_of names.now.nodes roots.now }
 {
     match roots {
         [] => 0,
-        [line, ..] => match number_of(&line.name.label, nodes) {
-            Some(node) => u32::from(node),
-            None => 0,
-        },
+        [line, ..] => names.node(&line.name.label).unwrap_or(0),
     }
 }

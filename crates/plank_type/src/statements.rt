@@ -1,6 +1,5 @@
 ghost use Rattle.std.specs.Prelude.{◌≡◌, ◌≤◌, ◌+◌, ◌++◌, ◌∷◌, [], length, OnOk};
 ghost use Rattle.plank_base.specs.declared.limits.TheConstants.{VARIABLES_LIMIT};
-ghost use Rattle.plank_type.specs.Numbers.{HasFewNames};
 ghost use Rattle.plank_prog.specs.declared.methods.Action.TheVariants as action;
 ghost use Rattle.plank_type.specs.Statements.{exit_within, tests_block, statement_part, body_part, else_part, statements_size, statements_locations};
 
@@ -28,8 +27,6 @@ pub(crate) fn add_statements(
     at: u32,
     exits: Exits,
 ) -> Result<(), OutOfMemory>
-    requires few { HasFewNames setting.names.now }
-    requires variables { length setting.variables.now ≤ VARIABLES_LIMIT }
     requires room { at + statements_size statements.now ≤ setting.locations }
     ensures { OnOk result (out.new.items ≡ out.old.items
         ++ statements_locations statements.now setting.entry.names.now setting.entry.variables.now setting.entry.locations at exits) }
@@ -52,8 +49,6 @@ fn add_body(
     at: u32,
     exits: Exits,
 ) -> Result<(), OutOfMemory>
-    requires few { HasFewNames setting.names.now }
-    requires variables { length setting.variables.now ≤ VARIABLES_LIMIT }
     requires room { at + (body_part body.now).size ≤ setting.locations }
     ensures { OnOk result (out.new.items ≡ out.old.items
         ++ (body_part body.now).locations setting.entry.names.now setting.entry.variables.now setting.entry.locations at exits) }
@@ -69,8 +64,6 @@ fn add_else(
     at: u32,
     exits: Exits,
 ) -> Result<(), OutOfMemory>
-    requires few { HasFewNames setting.names.now }
-    requires variables { length setting.variables.now ≤ VARIABLES_LIMIT }
     requires room { at + (else_part otherwise.now).size ≤ setting.locations }
     ensures { OnOk result (out.new.items ≡ out.old.items
         ++ (else_part otherwise.now).locations setting.entry.names.now setting.entry.variables.now setting.entry.locations at exits) }
@@ -90,8 +83,6 @@ fn add_tests(
     yes: u32,
     no: u32,
 ) -> Result<(), OutOfMemory>
-    requires few { HasFewNames setting.names.now }
-    requires variables { length setting.variables.now ≤ VARIABLES_LIMIT }
     ensures { OnOk result (out.new.items ≡ out.old.items ++ (record {
       place = place;
       action = action.Block (tests_block setting.entry.names.now setting.entry.variables.now tests.now
@@ -112,8 +103,6 @@ fn add_statement(
     at: u32,
     exits: Exits,
 ) -> Result<(), OutOfMemory>
-    requires few { HasFewNames setting.names.now }
-    requires variables { length setting.variables.now ≤ VARIABLES_LIMIT }
     requires room { at + (statement_part statement.now).size ≤ setting.locations }
     ensures { OnOk result (out.new.items ≡ out.old.items
         ++ (statement_part statement.now).locations setting.entry.names.now setting.entry.variables.now setting.entry.locations at exits) }

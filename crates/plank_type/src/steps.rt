@@ -1,12 +1,11 @@
 ghost use Rattle.std.specs.Prelude.{◌≡◌, ◌≤◌, ◌∷◌, length, map, IfOk};
 ghost use Rattle.std.specs.Option.{option_to_list};
 ghost use Rattle.plank_base.specs.declared.limits.TheConstants.{VARIABLES_LIMIT};
-ghost use Rattle.plank_type.specs.Numbers.{HasFewNames};
 ghost use Rattle.plank_type.specs.Operands.{test_of};
 ghost use Rattle.plank_prog.specs.declared.methods.Action.TheVariants as action;
 ghost use Rattle.plank_type.specs.Statements.{assigned, idle_block, read_block, assignment, atomic_block, tests_block, lock_block, take_lock, free_lock};
 
-use crate::names::{Names, number_of};
+use crate::names::{Numbers, VariableNumbers};
 use crate::operands::{
     binds_of, push_given, read_of, reference_of, test_of, tests_of_lines, with_of, writes_of,
 };
@@ -14,16 +13,17 @@ use plank_ast::{
     Assigned, Bind as BindTree, Reference as ReferenceTree, TestLine, Tests, With,
     Write as WriteTree,
 };
-use plank_base::{Label, OutOfMemory, Sequence};
+use plank_base::{Label, OutOfMemory};
 use plank_prog::{Action, Block, Reference, Test, Value, Write};
+use sqlite_items::Items;
 use std::alloc::Global;
 
 /// What the statements of a method are read in.
 #[derive(Clone, Copy)]
 pub(crate) struct Setting<'a> {
     pub alloc: Global,
-    pub names: &'a Names,
-    pub variables: &'a [Label],
+    pub names: &'a Numbers<'a>,
+    pub variables: &'a VariableNumbers<'a>,
     /// How many locations the method has.
     pub locations: u32,
 }
@@ -33,10 +33,10 @@ fn idle_block(alloc: Global, yes: u32, no: u32) -> Block
     ensures { result ≡ idle_block yes no }
 {
     Block {
-        with: Sequence::new(alloc),
-        tests: Sequence::new(alloc),
-        binds: Sequence::new(alloc),
-        writes: Sequence::new(alloc),
+        with: Items::new(alloc),
+        tests: Items::new(alloc),
+        binds: Items::new(alloc),
+        writes: Items::new(alloc),
         yes,
         no,
     }
@@ -49,8 +49,6 @@ fn read_block(
     field: &Label,
     next: u32,
 ) -> Result<Block, OutOfMemory>
-    requires few { HasFewNames setting.names.now }
-    requires variables { length setting.variables.now ≤ VARIABLES_LIMIT }
     ensures { IfOk result (λ b. b ≡ read_block setting.entry.names.now setting.entry.variables.now variable.now node.now field.now next) }
 {
     let alloc = setting.alloc;
@@ -60,10 +58,10 @@ fn read_block(
         read_of(setting.names, setting.variables, variable, node, field),
     )?;
     Ok(Block {
-        with: Sequence::new(alloc),
-        tests: Sequence::new(alloc),
-        binds: Sequence::from_vec(binds),
-        writes: Sequence::new(alloc),
+        with: Items::new(alloc),
+        tests: Items::new(alloc),
+        binds: Items::from_vec(binds),
+        writes: Items::new(alloc),
         yes: next,
         no: next,
     })
@@ -76,11 +74,9 @@ pub(crate) fn assignment(
     value: &Assigned,
     next: u32,
 ) -> Result<Action, OutOfMemory>
-    requires few { HasFewNames setting.names.now }
-    requires variables { length setting.variables.now ≤ VARIABLES_LIMIT }
     ensures { IfOk result (λ a. a ≡ assignment setting.entry.names.now setting.entry.variables.now variable.now value.now next) }
 {
-    let to = number_of(variable, setting.variables);
+    let to = setting.variables.number(variable);
     match value {
         Assigned::New(_) => Ok(allocation(setting.alloc, to, next)),
         Assigned::Null(_) => Ok(copy(setting.alloc, to, Value::Null, next)),
@@ -123,8 +119,6 @@ pub(crate) fn atomic_block(
     yes: u32,
     no: u32,
 ) -> Result<Block, OutOfMemory>
-    requires few { HasFewNames setting.names.now }
-    requires variables { length setting.variables.now ≤ VARIABLES_LIMIT }
     ensures { IfOk result (λ b. b ≡ atomic_block setting.entry.names.now setting.entry.variables.now with.now tests.now binds.now writes.now yes no) }
 {
     let Setting {
@@ -143,9 +137,7 @@ pub(crate) fn atomic_block(
     })
 }
 
-fn tests_of(setting: Setting<'_>, tests: &Tests) -> Result<Sequence<Test>, OutOfMemory>
-    requires few { HasFewNames setting.names.now }
-    requires variables { length setting.variables.now ≤ VARIABLES_LIMIT }
+fn tests_of(setting: Setting<'_>, tests: &Tests) -> Result<Items<Test>, OutOfMemory>
     ensures { IfOk result (λ ts. ts ≡ test_of setting.entry.names.now setting.entry.variables.now tests.now.first
         ∷ map (test_of setting.entry.names.now setting.entry.variables.now) tests.now.others) }
 {
@@ -154,7 +146,7 @@ fn tests_of(setting: Setting<'_>, tests: &Tests) -> Result<Sequence<Test>, OutOf
     for test in tests.others.as_slice() {
         out.push(test_of(setting.names, setting.variables, test))?;
     }
-    Ok(Sequence::from_vec(out))
+    Ok(Items::from_vec(out))
 }
 
 /// The block of the tests of an `if` or a `while`.
@@ -164,16 +156,14 @@ pub(crate) fn tests_block(
     yes: u32,
     no: u32,
 ) -> Result<Block, OutOfMemory>
-    requires few { HasFewNames setting.names.now }
-    requires variables { length setting.variables.now ≤ VARIABLES_LIMIT }
     ensures { IfOk result (λ b. b ≡ tests_block setting.entry.names.now setting.entry.variables.now tests.now yes no) }
 {
     let alloc = setting.alloc;
     Ok(Block {
-        with: Sequence::new(alloc),
+        with: Items::new(alloc),
         tests: tests_of(setting, tests)?,
-        binds: Sequence::new(alloc),
-        writes: Sequence::new(alloc),
+        binds: Items::new(alloc),
+        writes: Items::new(alloc),
         yes,
         no,
     })
@@ -190,7 +180,7 @@ fn lock_block(
     ensures { IfOk result (λ b. b ≡ lock_block setting.entry.names.now test write yes no) }
 {
     let alloc = setting.alloc;
-    if !setting.names.has_lock {
+    if !setting.names.has_lock() {
         return Ok(idle_block(alloc, yes, no));
     }
     let mut tests = Vec::new(alloc);
@@ -198,10 +188,10 @@ fn lock_block(
     let mut writes = Vec::new(alloc);
     writes.push(write)?;
     Ok(Block {
-        with: Sequence::new(alloc),
-        tests: Sequence::from_vec(tests),
-        binds: Sequence::new(alloc),
-        writes: Sequence::from_vec(writes),
+        with: Items::new(alloc),
+        tests: Items::from_vec(tests),
+        binds: Items::new(alloc),
+        writes: Items::from_vec(writes),
         yes,
         no,
     })

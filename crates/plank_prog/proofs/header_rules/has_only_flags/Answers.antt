@@ -1,5 +1,5 @@
 use Rattle.plank_prog.proofs.Bits.{only_low_bits}
 use Rattle.plank_prog.proofs.header_rules.has_only_flags.Goals as goal
 
-pub returns-then-count-ge8 : goal.returns-then-count-ge8
-returns-then-count-ge8 c = only_low_bits c.args.flags c.args.count c.ranges.flags.fits c.if-count-ge8.true
+pub returns-then-count : goal.returns-then-count
+returns-then-count c = only_low_bits c.args.flags c.args.count c.ranges.flags.fits c.if-count.true

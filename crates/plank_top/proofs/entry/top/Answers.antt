@@ -5,6 +5,7 @@ use Rattle.plank_top.specs.declared.words.Command.TheVariants.{Verify, Print}
 use Rattle.plank_top.specs.Words.{words_of}
 use Rattle.plank_top.specs.Endings.{Told, Serves}
 use Rattle.plank_top.proofs.Accepting.{accepted_is_sound}
+use Rattle.plank_top.proofs.Completing.{given_judges}
 use Rattle.plank_top.proofs.entry.top.Goals as goal
 
 -- words name one command at most
@@ -19,4 +20,13 @@ returns-in-Some-clause-served g c command are =
     same_command command c.in-Some.command _ _ c.serve.result (sym are ∙ c.in-Some.ensures.named) c.serve.ensures
 
 pub returns-in-Some-clause-sound : goal.returns-in-Some-clause-sound
-returns-in-Some-clause-sound g c accepted = accepted_is_sound c.accepted_runs_law.ensures c.in-Some.command _ _ c.serve.result c.serve.ensures accepted
+returns-in-Some-clause-sound g c accepted =
+    accepted_is_sound (record { linearizable = c.accepted_runs_law.ensures.linearizable; no_null_reads = c.accepted_runs_law.ensures.no_null_reads })
+    c.in-Some.command _ _ c.serve.result c.serve.ensures accepted
+
+pub returns-in-Some-clause-complete : goal.returns-in-Some-clause-complete
+returns-in-Some-clause-complete g c are given =
+    given_judges _ _ c.serve.result given (same_command Verify c.in-Some.command _ _ c.serve.result (sym are ∙ c.in-Some.ensures.named) c.serve.ensures)
+
+pub returns-in-None-clause-complete : goal.returns-in-None-clause-complete
+returns-in-None-clause-complete g c are given = absurd (c.in-None.ensures.none Verify are)

@@ -4,6 +4,10 @@ use Rattle.plank_type.specs.declared.limits.Excess.{Excess}
 use Rattle.plank_top.specs.Answers.{ill_typed, too_large}
 use Rattle.plank_top.proofs.replies.judge_text.Goals as goal
 
+pub returns-in-Ok : goal.returns-in-Ok
+returns-in-Ok c =
+    IfOk-weaker c.judge_program-reply.result _ _ (λ r h. h c.args.text.now c.in-Ok.ensures.program) c.judge_program-reply.ensures
+
 pub returns-in-Err-Broken : goal.returns-in-Err-Broken
 returns-in-Err-Broken c =
     let broken : Broken = record { kind = c.in-Err-Broken.kind; place = c.in-Err-Broken.place } in

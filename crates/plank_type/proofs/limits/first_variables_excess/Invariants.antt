@@ -5,4 +5,4 @@ use Rattle.plank_type.proofs.limits.first_variables_excess.Given as goal
 -- the methods so far are within the limit
 abbrev pub invariant-loop-method : goal.invariant-loop-method
 invariant-loop-method l =
-    first_given variables_excess (drop l.method-index l.methods) ≡ first_given variables_excess l.methods
+    first_given (variables_excess l.limit) (drop l.method-index l.methods) ≡ first_given (variables_excess l.limit) l.methods

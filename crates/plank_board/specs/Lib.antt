@@ -1,0 +1,7 @@
+pub mod Words
+pub mod Events
+pub mod Rule
+pub mod Seats
+pub mod Plays
+pub mod Calls
+pub mod Loops

@@ -1,0 +1,19 @@
+-- Where the words of a board stand: first the epoch, then a settled word for each method, then the words of marks.
+use Rattle.std.specs.Prelude.{ℕ, ◌+◌, ◌/◌, ◌%◌, Bool, List, slice_index}
+use Rattle.plank_bits.specs.Words.{is_set}
+
+-- how often a seat has told that it set marks that were clear
+abbrev pub epoch : List ℕ → ℕ
+epoch ws = slice_index ws 0
+
+-- one more than the last epoch at which the method m was found to force nothing new; 0 where nothing is known of it
+abbrev pub settled : List ℕ → ℕ → ℕ
+settled ws m = slice_index ws (m + 1)
+
+-- the i-th word of marks, behind the words of so many methods
+abbrev pub mark_word : ℕ → List ℕ → ℕ → ℕ
+mark_word methods ws i = slice_index ws (methods + 1 + i)
+
+-- which marks are set
+abbrev pub marks : ℕ → List ℕ → ℕ → Bool
+marks methods ws k = is_set (mark_word methods ws (k / 64)) (k % 64)

@@ -1,0 +1,4 @@
+pub mod Added
+pub mod Ends
+pub mod Answered
+pub mod Claimed

@@ -1,0 +1,3 @@
+pub mod Forcing
+pub mod Stronger
+pub mod Laws

@@ -1,0 +1,12 @@
+-- No more runs than the seat knows by now of settled words and marks.
+use Rattle.std.proofs.Common.{◌-◌}
+use Rattle.plank_crew.proofs.Known.{AtTurn, most_runs}
+use Rattle.plank_crew.proofs.workers.work.Given as goal
+
+abbrev pub invariant-loop-look : goal.invariant-loop-look
+invariant-loop-look g l =
+    AtTurn g.N.Named.methods g.N.Named.words g.N.Named.forces l.fn.seat l.seat l.look l.methods l.m l.initial.steps l.steps
+
+abbrev pub decreases-loop-look : goal.decreases-loop-look
+decreases-loop-look g l =
+    most_runs g.N.Named.methods g.N.Named.words - (l.steps - l.initial.steps)

@@ -1,0 +1,8 @@
+-- That a board's name is the name of a forcing.
+use Rattle.std.specs.Prelude.{◌≡◌, ◌↔◌, ℕ, Bool}
+
+-- the methods and words of a name are those of a forcing, and each method forces the same
+pub record IsNameOf (named named_words : ℕ) (named_forces : ℕ → (ℕ → Bool) → ℕ → Type 0) (count size : ℕ) (found : ℕ → (ℕ → Bool) → ℕ → Type 0) : Type 0 where
+  pub methods : named ≡ count
+  pub words : named_words ≡ size
+  pub forces : (m : ℕ) (marks : ℕ → Bool) (k : ℕ) → named_forces m marks k ↔ found m marks k

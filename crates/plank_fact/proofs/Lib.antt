@@ -1,0 +1,16 @@
+pub mod Rows
+pub mod Joined
+pub mod Counted
+pub mod Numbered
+pub mod Lookups
+pub mod Limits
+pub mod TableFacts
+pub mod Monotone
+pub mod Valid
+pub mod Counts
+pub mod Bounded
+pub mod Unreached
+pub mod Publishing
+pub mod Listed
+pub mod KeptWrites
+pub mod Example

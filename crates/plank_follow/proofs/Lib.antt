@@ -1,0 +1,5 @@
+pub mod Sorts
+pub mod Lists
+pub mod Additions
+pub mod Ways
+pub mod Ends

@@ -1,0 +1,4 @@
+pub mod Kinds
+pub mod Literals
+pub mod Following
+pub mod Known

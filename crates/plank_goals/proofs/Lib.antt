@@ -1,0 +1,9 @@
+pub mod Basics
+pub mod Gathered
+pub mod Named
+pub mod Entering
+pub mod Cuts
+pub mod Views
+pub mod Telling
+pub mod Inside
+pub mod Said

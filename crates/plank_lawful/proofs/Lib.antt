@@ -1,0 +1,10 @@
+pub mod Asked
+pub mod Places
+pub mod Joined
+pub mod Tests
+pub mod OneNode
+pub mod LawfulMeets
+pub mod Meeting
+pub mod Alike
+pub mod MeetsLawful
+pub mod Listed

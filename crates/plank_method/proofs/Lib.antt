@@ -1,0 +1,5 @@
+pub mod Growing
+pub mod Sifting
+pub mod Exits
+pub mod ForcedMarks
+pub mod Validity

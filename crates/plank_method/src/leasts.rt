@@ -1,0 +1,54 @@
+ghost use Rattle.std.specs.Prelude.{◌≡◌, ℕ, ◌+◌, ◌*◌, ◌≤◌, length, IfOk};
+ghost use Rattle.plank_bits.specs.Words.{has};
+ghost use Rattle.plank_bits.specs.Forced.{IsClosed};
+ghost use Rattle.plank_fact.specs.Forced.{Forces, AreLeastMarks, IsValid};
+ghost use Rattle.plank_method.specs.Deciding.{outline_of};
+ghost use Rattle.plank_marks.specs.Marks.{mark_words};
+
+use crate::deciding::Deciding;
+use crate::provers::Prover;
+use crate::runs::run;
+use plank_base::OutOfMemory;
+use plank_bits::{MarkWords, Steps};
+use std::alloc::Global;
+use std::marker::Sync;
+use std::sync::ledger::Ledger;
+
+/// Justifies every claim at marks that force no others: each fact whose mark is not set is had where its
+/// method begins and after each step that leads to its location, and no step of another call breaks it.
+pub fn justify<D: Deciding>(
+    alloc: Global,
+    deciding: &D,
+    marks: &MarkWords,
+) -> Result<(), OutOfMemory>
+    requires marks { length marks.now ≡ mark_words (D.program deciding.now).methods }
+    requires closed { IsClosed (Forces (D.program deciding.now).header (D.program deciding.now).methods)
+        (length (D.program deciding.now).methods) (has marks.now) }
+    ensures { IfOk result (λ done. IsValid (outline_of (D.program deciding.now) marks.now)) }
+{
+    for method in 0..deciding.program().methods.len() {
+        let found = run(alloc, deciding, method as u32, marks)?;
+        drop(found);
+    }
+    Ok(())
+}
+
+/// The least marks of a program, which force no others, found as one thread finds them: every method is
+/// run at the marks so far, until a round adds none. Then each claim is justified.
+pub fn rounds<D: Deciding + Sync, L: Ledger>(
+    alloc: Global,
+    deciding: &D,
+    steps: &mut Steps<L>,
+) -> Result<MarkWords, OutOfMemory>
+    ensures words { IfOk result (λ marks. length marks ≡ mark_words (D.program deciding.now).methods) }
+    ensures least { IfOk result (λ marks. AreLeastMarks (D.program deciding.now).header
+        (D.program deciding.now).methods (has marks)) }
+    ensures valid { IfOk result (λ marks. IsValid (outline_of (D.program deciding.now) marks)) }
+    ensures steps { steps.new ≤ steps.old + length (D.program deciding.now).methods
+        * (64 * mark_words (D.program deciding.now).methods + 1) }
+{
+    let prover = Prover { deciding };
+    let marks = plank_bits::rounds(alloc, &prover, steps)?;
+    justify(alloc, deciding, &marks)?;
+    Ok(marks)
+}

@@ -1,0 +1,4 @@
+pub mod Rounds
+pub mod Covering
+pub mod Assigning
+pub mod Telling

@@ -1,0 +1,4 @@
+pub mod Codes
+pub mod Numbers
+pub mod Shapes
+pub mod Tellings

@@ -1,0 +1,9 @@
+use Rattle.std.proofs.Common.{◌≡◌, ℕ}
+use Rattle.std.specs.Prelude.{◌&&◌, nat_lt}
+use Rattle.plank_bits.specs.Words.{has}
+use Rattle.plank_past.specs.Answered.{is_on}
+use Rattle.plank_past.proofs.answered.set_of.Given as goal
+
+-- the set has the numbers so far
+abbrev pub invariant-loop-number : goal.invariant-loop-number
+invariant-loop-number l = (k : ℕ) → has l.set k ≡ (nat_lt k l.number && is_on l.answers k)

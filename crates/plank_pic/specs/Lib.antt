@@ -1,0 +1,13 @@
+pub mod Below
+pub mod Frames
+pub mod Pictures
+pub mod Renaming
+pub mod Lawful
+pub mod Outcomes
+pub mod Steps
+pub mod Blocks
+pub mod Calls
+pub mod Keeps
+pub mod Truths
+pub mod EachName
+pub mod TestedSteps

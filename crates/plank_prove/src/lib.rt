@@ -1,0 +1,8 @@
+//! A program, judged by questions about pictures: its least marks, found by one thread, and the verdict there.
+#![tactic(auto)]
+
+mod judged;
+mod least;
+
+pub use judged::judge;
+pub use least::least_marks;

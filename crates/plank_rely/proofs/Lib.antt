@@ -1,0 +1,5 @@
+pub mod Unions
+pub mod Said
+pub mod Effects
+pub mod Answers
+pub mod NamesOfEffects

@@ -1,0 +1,4 @@
+pub mod Joins
+pub mod Listing
+pub mod Exact
+pub mod Rounds

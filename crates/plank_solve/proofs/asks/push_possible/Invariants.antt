@@ -1,0 +1,7 @@
+use Rattle.std.proofs.Common.{◌≡◌, ◌++◌, map, drop}
+use Rattle.plank_solve.specs.declared.asks.Ask.{Ask}
+use Rattle.plank_solve.proofs.asks.push_possible.Given as goal
+
+-- the asks so far and those of what is left are all
+abbrev pub invariant-loop-rule : goal.invariant-loop-rule
+invariant-loop-rule l = l.asks.items ++ map Ask.Possible (drop l.rule-index l.rules) ≡ l.fn.asks.items ++ map Ask.Possible l.rules

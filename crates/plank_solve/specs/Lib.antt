@@ -1,0 +1,4 @@
+pub mod Asks
+pub mod Lists
+pub mod Pictured
+pub mod Rulings

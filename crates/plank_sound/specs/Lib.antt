@@ -1,0 +1,9 @@
+pub mod Sights
+pub mod Interference
+pub mod HindsightLaw
+pub mod JointNames
+pub mod SeenSteps
+pub mod Soundness
+pub use Rattle.plank_hist.specs.Linearizability
+pub use Rattle.plank_hist.specs.Histories
+pub use Rattle.plank_sem.specs.Runs

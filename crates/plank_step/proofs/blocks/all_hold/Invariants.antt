@@ -1,0 +1,10 @@
+use Rattle.std.proofs.Common.{◌≡◌, ℕ, Bool, drop}
+use Rattle.plank_pic.specs.Blocks.{all_hold}
+use Rattle.plank_walk.specs.Settles.{Agrees}
+use Rattle.plank_step.proofs.blocks.all_hold.Given as goal
+
+-- what is left decides as the whole does
+abbrev pub invariant-loop-test : goal.invariant-loop-test
+invariant-loop-test g l = (full : ℕ → Bool) → Agrees (g.S.Reader.known l.source) full →
+    all_hold (g.S.Reader.frame l.source) (g.T.TakesTurn.turn l.turn) (g.S.Reader.picture l.source full) (drop l.test-index l.tests)
+    ≡ all_hold (g.S.Reader.frame l.source) (g.T.TakesTurn.turn l.turn) (g.S.Reader.picture l.source full) l.tests

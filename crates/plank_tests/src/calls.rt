@@ -1,0 +1,74 @@
+//! Calls of `top` over memory: what it answers, and what it writes.
+ghost use Rattle.std.specs.Prelude.{◌≤◌};
+
+use plank_base::OutOfMemory;
+use plank_io::{MemSink, MemSource, OpenGate};
+use plank_top::{Status, top};
+use std::alloc::Global;
+
+/// A structure of one node whose one method answers false.
+pub(crate) const ONE: &[u8] =
+    b"structure one;\nroot a;\nstart a { key = MIN; }\nholds false;\nmethod contains(k) { return false; }\n";
+
+/// A sorted list from a sentinel to a sentinel, with one method that walks it.
+pub(crate) const ENDS: &[u8] =
+    b"structure ends;\nptr next asc;\nroot head;\nstart head { key = MIN; next = tail; }\nstart tail { key = MAX; }\nedge next : x.key < j;\nholds x.key == j;\nkeep linked : x.key == MAX || x.next != null;\nmethod contains(k) {\n  var p, c;\n  p = root;\n  c = p.next;\n  while (c.key < k) {\n    p = c;\n    c = p.next;\n  }\n  if (c.key == k) { return true; } else { return false; }\n}\n";
+
+/// How the outside behaves: the most bytes that a call moves, and the calls that fail.
+#[derive(Clone, Copy)]
+pub(crate) struct Outside<'a> {
+    pub(crate) read_most: usize,
+    pub(crate) read_fails: &'a [u32],
+    pub(crate) write_most: usize,
+    pub(crate) write_fails: &'a [u32],
+    ghost reads: { 1 ≤ read_most },
+    ghost writes: { 1 ≤ write_most },
+}
+
+const PLAIN: Outside<'static> = Outside {
+    read_most: 4096,
+    read_fails: &[],
+    write_most: 4096,
+    write_fails: &[],
+};
+
+/// What the call answers to the words and the text, and what it writes.
+pub(crate) fn called(
+    alloc: Global,
+    words: &[&str],
+    text: &[u8],
+    outside: &Outside<'_>,
+) -> Result<(Status, Vec<u8>), OutOfMemory> {
+    let mut owned = Vec::new(alloc);
+    for word in words {
+        owned.push(String::from_str(alloc, word)?)?;
+    }
+    let mut source = MemSource::new(alloc, text, outside.read_most, outside.read_fails)?;
+    let mut sink = MemSink::new(alloc, 8_192, outside.write_most, outside.write_fails)?;
+    let status = top(&(), alloc, &owned, &mut source, &mut sink, &OpenGate);
+    let taken = Vec::from_slice(alloc, sink.taken())?;
+    Ok((status, taken))
+}
+
+/// Whether the call writes this.
+pub(crate) fn writes(
+    alloc: Global,
+    words: &[&str],
+    text: &[u8],
+    output: &[u8],
+) -> Result<bool, OutOfMemory> {
+    let (_, taken) = called(alloc, words, text, &PLAIN)?;
+    Ok(taken.as_slice() == output)
+}
+
+/// Whether the call answers this status and writes this.
+pub(crate) fn answers(
+    alloc: Global,
+    words: &[&str],
+    text: &[u8],
+    status: Status,
+    output: &[u8],
+) -> Result<bool, OutOfMemory> {
+    let (ended, taken) = called(alloc, words, text, &PLAIN)?;
+    Ok(ended == status && taken.as_slice() == output)
+}

@@ -1,0 +1,21 @@
+//! Tests of the whole way from bytes to the report: what no clause says, and what shows that definitions mean what they should.
+#![tactic(auto)]
+
+#[cfg(test)]
+mod calls;
+#[cfg(test)]
+mod endings;
+#[cfg(test)]
+mod limits;
+#[cfg(test)]
+mod programs;
+#[cfg(test)]
+mod reading;
+#[cfg(test)]
+mod structures;
+#[cfg(test)]
+mod tokens;
+#[cfg(test)]
+mod typing;
+#[cfg(test)]
+mod verdicts;

@@ -1,0 +1,62 @@
+//! Verdicts on whole structures: lists and trees after published ones, and texts with a fault.
+use crate::calls::{ENDS, writes};
+
+/// A sorted list whose upkeep unlinks the first marked node on its way.
+pub(crate) const SWEEP: &[u8] =
+    b"structure michael;\nflag marked;\nptr next asc;\nroot head;\nstart head { key = MIN; next = tail; }\nstart tail { key = MAX; }\nedge next : x.key < j;\nholds x.key == j && !x.marked;\nkeep linked : x.key == MAX || x.next != null;\nkeep ends : !x.marked || MIN < x.key && x.key < MAX;\nkeep inset : x.marked || j < x.key || j in x;\nmethod insert(k) {\n  var p, c, s, n;\n  n = new; p = root; c = p.next;\n  loop {\n    if (c.marked) {\n      s = c.next;\n      atomic { test p.next == c; test !p.marked; write p.next = s; }\n      else { p = root; s = p.next; }\n      c = s;\n    } else { if (c.key < k) { p = c; c = p.next; }\n    else { if (c.key == k) { return false; }\n    else {\n      atomic { write n.next = c; }\n      atomic { test p.next == c; test !p.marked; write p.next = n; }\n      else { p = root; c = p.next; continue; }\n      return true;\n    } } }\n  }\n}\nmethod delete(k) {\n  var p, c, s;\n  p = root; c = p.next;\n  loop {\n    if (c.marked) {\n      s = c.next;\n      atomic { test p.next == c; test !p.marked; write p.next = s; }\n      else { p = root; s = p.next; }\n      c = s;\n    } else { if (c.key < k) { p = c; c = p.next; }\n    else { if (c.key == k) {\n      atomic { test !c.marked; write c.marked = true; } else { continue; }\n      s = c.next;\n      atomic { test p.next == c; test !p.marked; write p.next = s; }\n      return true;\n    } else { return false; } } }\n  }\n}\nmethod contains(k) {\n  var p, c;\n  p = root; c = p.next;\n  while (c.key < k) { p = c; c = p.next; }\n  if (c.key == k) { if (c.marked) { return false; } else { return true; } }\n  else { return false; }\n}\nmethod sweep as upkeep(k) {\n  var p, c, s;\n  p = root; c = p.next;\n  loop {\n    if (c.marked) {\n      s = c.next;\n      atomic { test p.next == c; test !p.marked; write p.next = s; }\n      return true;\n    }\n    if (k <= c.key) { return true; }\n    p = c; c = p.next;\n  }\n}\n";
+
+/// A test that reads a field of null.
+const GAP: &[u8] =
+    b"structure gap;\nroot a;\nstart a { key = MIN; }\nholds false;\nmethod contains(k) {\n  var p;\n  if (p.key < k) { return false; }\n  return false;\n}\n";
+
+/// An insert that can lose the insert of another thread.
+const LOST: &[u8] =
+    b"structure lost;\nptr next asc;\nroot head;\nstart head { key = MIN; next = tail; }\nstart tail { key = MAX; }\nedge next : x.key < j;\nholds x.key == j;\nkeep linked : x.key == MAX || x.next != null;\nmethod insert(k) {\n  var p, c, n;\n  p = root;\n  c = p.next;\n  while (c.key < k) {\n    p = c;\n    c = p.next;\n  }\n  if (k < c.key) {\n    n = new;\n    atomic { write n.next = c; }\n    atomic { write p.next = n; }\n    return true;\n  }\n  return false;\n}\n";
+
+/// A method of upkeep that puts every key in.
+const LAMP: &[u8] =
+    b"structure lamp;\nflag up;\nroot a;\nstart a { key = MIN; }\nholds x.up;\nmethod light as upkeep(k) { atomic { write root.up = true; } return true; }\n";
+
+/// A set with runs that no set explains: a node is unlinked and forgotten in one step.
+const STALE_SLOT: &[u8] =
+    b"structure slot;\nflag gone;\nptr next asc;\nlock;\nroot head;\nstart head { key = MIN; }\nedge next : x.key < j;\nholds x.key == j && !x.gone;\nkeep leaf : x.key == MIN || x.next == null;\nkeep inset : x.key != j || j in x;\nmethod insert(k) {\n  var n;\n  n = new;\n  loop {\n    atomic { test root.next == null; write root.next = n; } else { continue; }\n    return true;\n  }\n}\nmethod delete(k) {\n  var c;\n  loop {\n    atomic { test root.next != null; c = root.next; } else { continue; }\n    if (c.key == k) {\n      lock root;\n      atomic { with root; test !c.gone; write c.gone = true; } else { unlock root; continue; }\n      unlock root;\n      return true;\n    }\n  }\n}\nmethod remove as delete(k) {\n  var c, n;\n  n = new;\n  loop {\n    lock root;\n    atomic { test root.next != null; c = root.next; } else { unlock root; continue; }\n    if (c.key == k && !c.gone) {\n      atomic { c = n.next; write root.next = null; }\n      unlock root;\n      return true;\n    }\n    unlock root;\n  }\n}\n";
+
+#[test]
+fn a_list_that_is_only_read_is_accepted(rt: HostRuntime) {
+    let output = b"structure ends\neffects 0\naccepted\n";
+    assert!(rt; writes(rt.alloc(), &["verify"], ENDS, output) == Ok(true));
+}
+
+/// The same without the keep that says where pointers lead.
+const UNLINKED: &[u8] =
+    b"structure ends;\nptr next asc;\nroot head;\nstart head { key = MIN; next = tail; }\nstart tail { key = MAX; }\nedge next : x.key < j;\nholds x.key == j;\nmethod contains(k) {\n  var p, c;\n  p = root;\n  c = p.next;\n  while (c.key < k) {\n    p = c;\n    c = p.next;\n  }\n  if (c.key == k) { return true; } else { return false; }\n}\n";
+
+#[test]
+fn a_walk_that_may_come_to_null_is_rejected(rt: HostRuntime) {
+    let output = b"structure ends\neffects 0\nrejected null in contains at 12:3\n";
+    assert!(rt; writes(rt.alloc(), &["verify"], UNLINKED, output) == Ok(true));
+}
+
+#[test]
+fn a_read_of_null_is_rejected(rt: HostRuntime) {
+    let output = b"structure gap\neffects 0\nrejected null in contains at 7:3\n";
+    assert!(rt; writes(rt.alloc(), &["verify"], GAP, output) == Ok(true));
+}
+
+#[test]
+fn a_lost_insert_is_rejected(rt: HostRuntime) {
+    let output = b"structure lost\neffects 2\nrejected footprint in insert at 20:5\n";
+    assert!(rt; writes(rt.alloc(), &["verify"], LOST, output) == Ok(true));
+}
+
+#[test]
+fn an_upkeep_that_changes_the_set_is_rejected(rt: HostRuntime) {
+    let output = b"structure lamp\neffects 1\nrejected change in light at 6:29\n";
+    assert!(rt; writes(rt.alloc(), &["verify"], LAMP, output) == Ok(true));
+}
+
+#[test]
+fn a_node_that_is_forgotten_as_it_is_unlinked_is_looked_at(rt: HostRuntime) {
+    let output = b"structure slot\neffects 10\nrejected keep in remove at 38:7\n";
+    assert!(rt; writes(rt.alloc(), &["verify"], STALE_SLOT, output) == Ok(true));
+}

@@ -1,0 +1,59 @@
+ghost use Rattle.std.specs.Prelude.{◌≡◌, ◌+◌, ◌*◌, ◌≤◌, length, IfOk};
+ghost use Rattle.plank_bits.specs.Words.{has};
+ghost use Rattle.plank_fact.specs.Forced.{AreLeastMarks, IsValid};
+ghost use Rattle.plank_marks.specs.Marks.{mark_words};
+ghost use Rattle.plank_judge.specs.Verdicts.{outline_of};
+ghost use Rattle.plank_verdict.specs.Judged.{IsJudged};
+
+use crate::effects::count_effects;
+use plank_base::OutOfMemory;
+use plank_bits::{MarkWords, Steps};
+use plank_judge::{Demands, Verdict, judge};
+use plank_method::{Deciding, rounds};
+use plank_query::Oracle;
+use std::alloc::Global;
+use std::marker::Sync;
+use std::sync::ledger::Ledger;
+
+/// What is said of a program at its least marks.
+#[derive(Clone, Copy)]
+pub struct Judged {
+    /// How many locations write, and may be come to.
+    pub effects: u32,
+    pub verdict: Verdict,
+}
+
+/// Judges a program at its least marks, where each claim is justified.
+pub fn judge_at<Q: Oracle, J: Demands>(
+    alloc: Global,
+    oracle: &Q,
+    demands: &J,
+    marks: &MarkWords,
+) -> Result<Judged, OutOfMemory>
+    requires words { length marks.now ≡ mark_words (J.program demands.now).methods }
+    requires least { AreLeastMarks (J.program demands.now).header (J.program demands.now).methods
+        (has marks.now) }
+    requires valid { IsValid (outline_of (J.program demands.now) marks.now) }
+    ensures { IfOk result (IsJudged (J.program demands.now)) }
+{
+    let effects = count_effects(alloc, oracle, demands.program(), marks)?;
+    let verdict = judge(alloc, demands, marks)?;
+    Ok(Judged { effects, verdict })
+}
+
+/// Judges a program: finds its least marks as one thread does, and judges it there.
+pub fn judge_program<Q: Oracle, D: Deciding + Sync, J: Demands, L: Ledger>(
+    alloc: Global,
+    oracle: &Q,
+    deciding: &D,
+    demands: &J,
+    steps: &mut Steps<L>,
+) -> Result<Judged, OutOfMemory>
+    requires { J.program demands.now ≡ D.program deciding.now }
+    ensures judged { IfOk result (IsJudged (D.program deciding.now)) }
+    ensures steps { steps.new ≤ steps.old + length (D.program deciding.now).methods
+        * (64 * mark_words (D.program deciding.now).methods + 1) }
+{
+    let marks = rounds(alloc, deciding, steps)?;
+    judge_at(alloc, oracle, demands, &marks)
+}

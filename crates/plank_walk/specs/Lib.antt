@@ -1,0 +1,4 @@
+pub mod Settles
+pub mod Seen
+pub mod Walks
+pub mod Laws

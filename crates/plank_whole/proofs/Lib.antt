@@ -1,0 +1,5 @@
+pub mod Sure
+mod Meeting
+mod Putting
+mod Said
+mod Stepped

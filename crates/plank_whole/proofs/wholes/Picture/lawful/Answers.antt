@@ -1,0 +1,20 @@
+-- The rules of the list say what a lawful picture is.
+use Rattle.std.proofs.Common.{sym, ◌∙◌}
+use Rattle.std.proofs.lemmas.List.Sums.{AllPass-from_list_all, list_all-from_AllPass}
+use Rattle.plank_lawful.specs.Lists.{rules_of_lawful}
+use Rattle.plank_lawful.proofs.LawfulMeets.{lawful_meets}
+use Rattle.plank_lawful.proofs.MeetsLawful.{meets_lawful}
+use Rattle.plank_lawful.proofs.Listed.{lawful_listed, lawful_all}
+use Rattle.plank_whole.specs.Wholes.{frame_of, shown}
+use Rattle.plank_whole.specs.Judging.{meets}
+use Rattle.plank_whole.proofs.Said.{says_no_outside}
+use Rattle.plank_whole.proofs.wholes.Picture.lawful.Goals as goal
+
+pub returns : goal.returns
+returns c =
+    let w = c.args.self.now in
+    let F = frame_of w in
+    let rules = rules_of_lawful F in (
+      (λ e. meets_lawful F (shown w) (says_no_outside F w.said) (lawful_listed F (shown w) (AllPass-from_list_all (meets w) rules (sym c.meets_lawful.ensures ∙ e)))),
+      λ is. c.meets_lawful.ensures ∙ list_all-from_AllPass (meets w) rules (lawful_all F (shown w) (lawful_meets F (shown w) is)),
+    )

@@ -1,0 +1,9 @@
+//! Whole pictures: a truth for each part, and what the rules answer of them.
+#![tactic(auto)]
+
+mod answers;
+mod judging;
+mod stepping;
+mod wholes;
+
+pub use wholes::Picture;
