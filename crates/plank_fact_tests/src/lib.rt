@@ -1,9 +1,6 @@
-//! Tests of facts, on texts: how many facts methods have, where some of them stand, and the least marks of
-//! small texts.
+//! Tests of facts, on texts: how many facts methods have, and where some of them stand.
 #![tactic(auto)]
 
-#[cfg(test)]
-mod least;
 #[cfg(test)]
 mod places;
 #[cfg(test)]
