@@ -10,6 +10,7 @@ use crate::deciding::Deciding;
 use crate::passes::{pass, pass_by_steps};
 use crate::provers::Prover;
 use crate::runs::run;
+use crate::stales::stale_after;
 use plank_base::OutOfMemory;
 use plank_bits::{MarkWords, Steps};
 use plank_marks::mark_words;
@@ -71,16 +72,19 @@ fn settle_steps<D: Deciding>(
     alloc: Global,
     deciding: &D,
     marks: &mut MarkWords,
+    stale: Vec<bool>,
 ) -> Result<(), OutOfMemory>
     requires { length marks.old ≡ mark_words (D.program deciding.now).methods }
     ensures { OnOk result (AreAdded (D.program deciding.now) marks.old marks.new) }
 {
+    let mut stale = stale;
     loop {
         let before = copy_of(alloc, marks)?;
-        pass_by_steps(alloc, deciding, marks)?;
+        pass_by_steps(alloc, deciding, marks, stale.as_slice())?;
         if marks.subset(&before) {
             return Ok(());
         }
+        stale = stale_after(alloc, deciding.program(), &before, marks)?;
     }
 }
 
@@ -93,12 +97,14 @@ pub fn least_marks<D: Deciding>(alloc: Global, deciding: &D) -> Result<MarkWords
     ensures valid { IfOk result (λ marks. IsValid (outline_of (D.program deciding.now) marks)) }
 {
     let mut marks = MarkWords::new(alloc, mark_words(deciding.program()))?;
+    let mut stale = Vec::new(alloc);
     loop {
-        settle_steps(alloc, deciding, &mut marks)?;
+        settle_steps(alloc, deciding, &mut marks, stale)?;
         let before = copy_of(alloc, &marks)?;
         pass(alloc, deciding, &mut marks)?;
         if marks.subset(&before) {
             return Ok(marks);
         }
+        stale = stale_after(alloc, deciding.program(), &before, &marks)?;
     }
 }

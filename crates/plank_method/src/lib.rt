@@ -10,6 +10,7 @@ mod numbers;
 mod passes;
 mod provers;
 mod runs;
+mod stales;
 
 pub use deciding::Deciding;
 pub use leasts::{justify, least_marks, rounds};

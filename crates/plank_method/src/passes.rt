@@ -15,7 +15,8 @@ use crate::runs::Locations;
 use plank_base::OutOfMemory;
 use plank_bits::MarkWords;
 use plank_fact::FactSet;
-use plank_marks::{At, first_mark, location_count};
+use plank_marks::{At, first_mark, location_count, locations_before};
+use plank_prog::Program;
 use std::alloc::Global;
 
 impl<'a, D: Deciding> Locations<'a, D> {
@@ -42,6 +43,26 @@ impl<'a, D: Deciding> Locations<'a, D> {
         } else {
             self.forced_by_steps(alloc, location, first, facts)
         }
+    }
+}
+
+// Which locations are visited, and whether steps of other calls are looked at.
+#[derive(Clone, Copy)]
+struct Visits<'s> {
+    others: bool,
+    // Where others are not looked at: by their numbers, the locations to which a step leads from one whose
+    // claims have become fewer. A hint.
+    stale: &'s [bool],
+}
+
+// Whether a location may have fewer facts after the steps that lead to it. A hint.
+fn is_stale(program: &Program, at: At, stale: &[bool]) -> bool
+    requires { at.method < length program.now.methods }
+{
+    let number = locations_before(program, at.method) as usize + at.location as usize;
+    match stale.get(number) {
+        Some(is_stale) => *is_stale,
+        None => true,
     }
 }
 
@@ -74,24 +95,48 @@ fn visit<D: Deciding>(
     Ok(())
 }
 
-// Visits the locations of a method.
+// Visits a location, where it is to be visited.
+fn visit_if<D: Deciding>(
+    alloc: Global,
+    deciding: &D,
+    at: At,
+    facts: &FactSet,
+    marks: &mut MarkWords,
+    visits: Visits<'_>,
+) -> Result<(), OutOfMemory>
+    requires method { at.method < length (D.program deciding.now).methods }
+    requires location { at.location < option_map_or location_count
+        (slice_get (D.program deciding.now).methods at.method) 0 }
+    requires facts { (k : ℕ) → has facts.now k ≡ facts_below (D.program deciding.now).header
+        (D.program deciding.now).methods at.method (64 * MARK_WORDS_PER_LOCATION) k }
+    requires marks { length marks.old ≡ mark_words (D.program deciding.now).methods }
+    ensures added { OnOk result (AreAdded (D.program deciding.now) marks.old marks.new) }
+    ensures justified { OnOk result (visits.entry.others ≡ true → AreJustifiedAt (D.program deciding.now) at.method at.location marks.old marks.new) }
+{
+    if visits.others || is_stale(deciding.program(), at, visits.stale) {
+        visit(alloc, deciding, at, facts, marks, visits.others)?;
+    }
+    Ok(())
+}
+
+// Visits the locations of a method, or, where nothing is asked of others, those that are to be visited.
 fn visit_method<D: Deciding>(
     alloc: Global,
     deciding: &D,
     method: u32,
     marks: &mut MarkWords,
-    others: bool,
+    visits: Visits<'_>,
 ) -> Result<(), OutOfMemory>
     requires method { method < length (D.program deciding.now).methods }
     requires marks { length marks.old ≡ mark_words (D.program deciding.now).methods }
     ensures added { OnOk result (AreAdded (D.program deciding.now) marks.old marks.new) }
-    ensures settled { OnOk result (others ≡ true → AreSettledWithin (D.program deciding.now) method
+    ensures settled { OnOk result (visits.entry.others ≡ true → AreSettledWithin (D.program deciding.now) method
         (option_map_or location_count (slice_get (D.program deciding.now).methods method) 0) marks.old marks.new) }
 {
     let facts = facts_of(deciding.program(), method);
     for location in 0..location_count(deciding.program(), method) {
         let at = At { method, location };
-        visit(alloc, deciding, at, &facts, marks, others)?;
+        visit_if(alloc, deciding, at, &facts, marks, visits)?;
     }
     Ok(())
 }
@@ -101,15 +146,15 @@ fn visit_all<D: Deciding>(
     alloc: Global,
     deciding: &D,
     marks: &mut MarkWords,
-    others: bool,
+    visits: Visits<'_>,
 ) -> Result<(), OutOfMemory>
     requires { length marks.old ≡ mark_words (D.program deciding.now).methods }
     ensures added { OnOk result (AreAdded (D.program deciding.now) marks.old marks.new) }
-    ensures settled { OnOk result (others ≡ true → AreSettled (D.program deciding.now)
+    ensures settled { OnOk result (visits.entry.others ≡ true → AreSettled (D.program deciding.now)
         (length (D.program deciding.now).methods) marks.old marks.new) }
 {
     for method in 0..deciding.program().methods.len() {
-        visit_method(alloc, deciding, method as u32, marks, others)?;
+        visit_method(alloc, deciding, method as u32, marks, visits)?;
     }
     Ok(())
 }
@@ -125,18 +170,29 @@ pub(crate) fn pass<D: Deciding>(
     ensures added { OnOk result (AreAdded (D.program deciding.now) marks.old marks.new) }
     ensures still { OnOk result (IsWithin (has marks.new) (has marks.old) → AreFinal (D.program deciding.now) marks.old) }
 {
-    visit_all(alloc, deciding, marks, true)?;
+    let visits = Visits {
+        others: true,
+        stale: &[],
+    };
+    visit_all(alloc, deciding, marks, visits)?;
     Ok(())
 }
 
-/// As `pass`, without a look at steps of other calls: far fewer questions. That it adds none says nothing.
+/// As `pass`, at the locations of these marks alone, and without a look at steps of other calls: far fewer
+/// questions. That it adds none says nothing.
 pub(crate) fn pass_by_steps<D: Deciding>(
     alloc: Global,
     deciding: &D,
     marks: &mut MarkWords,
+    stale: &[bool],
 ) -> Result<(), OutOfMemory>
     requires { length marks.old ≡ mark_words (D.program deciding.now).methods }
     ensures { OnOk result (AreAdded (D.program deciding.now) marks.old marks.new) }
 {
-    visit_all(alloc, deciding, marks, false)
+    let visits = Visits {
+        others: false,
+        stale,
+    };
+    visit_all(alloc, deciding, marks, visits)?;
+    Ok(())
 }

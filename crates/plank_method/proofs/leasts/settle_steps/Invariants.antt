@@ -5,8 +5,8 @@ use Rattle.plank_method.specs.Passes.{AreAdded}
 use Rattle.plank_method.proofs.Reaching.{mark_count}
 use Rattle.plank_method.proofs.leasts.settle_steps.Given as goal
 
-abbrev pub invariant-loop-before : goal.invariant-loop-before
-invariant-loop-before g l = AreAdded (g.D.Deciding.program l.deciding) l.initial.marks l.marks
+abbrev pub invariant-loop-stale : goal.invariant-loop-stale
+invariant-loop-stale g l = AreAdded (g.D.Deciding.program l.deciding) l.initial.marks l.marks
 
-abbrev pub decreases-loop-before : goal.decreases-loop-before
-decreases-loop-before g l = 64 * mark_words (g.D.Deciding.program l.deciding).methods - mark_count (g.D.Deciding.program l.deciding) l.marks
+abbrev pub decreases-loop-stale : goal.decreases-loop-stale
+decreases-loop-stale g l = 64 * mark_words (g.D.Deciding.program l.deciding).methods - mark_count (g.D.Deciding.program l.deciding) l.marks

@@ -17,8 +17,8 @@ loop-location-preserved g c =
     let p = g.D.Deciding.program c.args.deciding.now in
     let invariant = c.loop-location.invariant in
     record {
-      added = added_more p c.args.marks.now c.loop-location.marks c.visit.new.marks invariant.added c.in_ok-visit.ensures.added;
-      settled = λ all. location_more p c.args.marks.now c.loop-location.marks c.visit.new.marks invariant.added c.in_ok-visit.ensures.added c.args.method c.loop-location.location (invariant.settled all) (c.in_ok-visit.ensures.justified all);
+      added = added_more p c.args.marks.now c.loop-location.marks c.visit_if.new.marks invariant.added c.in_ok-visit_if.ensures.added;
+      settled = λ all. location_more p c.args.marks.now c.loop-location.marks c.visit_if.new.marks invariant.added c.in_ok-visit_if.ensures.added c.args.method c.loop-location.location (invariant.settled all) (c.in_ok-visit_if.ensures.justified all);
     }
 
 pub returns-clause-settled : goal.returns-clause-settled
