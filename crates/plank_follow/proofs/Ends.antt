@@ -1,7 +1,7 @@
 -- What follows from all that each picture shows, and from what is carried, is what a call knows.
-use Rattle.std.specs.Prelude.{◌≡◌, ◌⊎◌, ◌↔◌, ℕ, Bool, true, ◌&&◌, ◌||◌, List, Option, Some, None, Contains}
-use Rattle.std.proofs.Common.{refl, sym, ◌∙◌, subst, inl, inr}
-use Rattle.std.proofs.lemmas.Bool.{and_parts, and_from, or_cases, or_left, or_right}
+use Rattle.std.specs.Prelude.{◌≡◌, ◌⊎◌, ◌↔◌, ℕ, Bool, true, false, not, ◌&&◌, ◌||◌, List, Option, Some, None, Contains}
+use Rattle.std.proofs.Common.{refl, sym, ◌∙◌, ap, subst, inl, inr}
+use Rattle.std.proofs.lemmas.Bool.{and_parts, and_from, or_cases, or_left, or_right, cases_Bool, true≢false}
 use Rattle.std.proofs.lemmas.Option.{same_Some, none-some}
 use Rattle.plank_bits.specs.Words.{has}
 use Rattle.plank_prog.specs.declared.methods.Method.{Method}
@@ -105,12 +105,38 @@ module _ (p : Program) (marks : List ℕ) (m : Method) (Those : Picture → Type
         λ w. follows.all n C (asked_is n ∙ and_from (wanted n) (past n) wants ((past_is n).1 (C, is))) is (past_follows C w),
       )
 
-  -- ---- where no past fact is wanted
+  -- ---- where each wanted past fact is carried
 
-  pub shown_exact : (wanted found carries : ℕ → Bool) → ((n : ℕ) (L : Literal) → IsNumbered p.header m n (Fact.Past L) → wanted n ≡ true → ⊥) → IsExact p.header m wanted found (IsShown m Those)
-      → IsExact p.header m wanted found (IsKnown O m Those (IsPastIn p.header m carries))
-  shown_exact wanted found carries none exact n (Fact.Now L) is wants = (
-    λ e. record { fact = (n, is); holds = (exact n (Fact.Now L) is wants).0 e },
-    λ w. (exact n (Fact.Now L) is wants).1 w.holds,
-  )
-  shown_exact wanted found carries none exact n (Fact.Past L) is wants = absurd (none n L is wants)
+  module _ (past carries had wanted left shown found : ℕ → Bool) (past_is : AreOfKind p.header m true past) (had_is : (k : ℕ) → had k ≡ (carries k && past k))
+      (left_is : (k : ℕ) → left k ≡ (wanted k && not (had k))) (none : (n : ℕ) (L : Literal) → IsNumbered p.header m n (Fact.Past L) → left n ≡ true → ⊥)
+      (exact : IsExact p.header m left shown (IsShown m Those)) (found_is : (k : ℕ) → found k ≡ (shown k || had k)) where
+    now_open : (n : ℕ) (L : Literal) → IsNumbered p.header m n (Fact.Now L) → had n ≡ false
+    now_open n L is = elim (cases_Bool (had n)) [
+      | inl e ↦ (let w = (past_is n).0 (and_parts (carries n) (past n) (sym (had_is n) ∙ e)).1 in absurd (not_both p.header m n L w.0 is w.1))
+      | inr e ↦ e
+    ]
+
+    past_had : (n : ℕ) (C : Literal) → IsNumbered p.header m n (Fact.Past C) → wanted n ≡ true → had n ≡ true
+    past_had n C is wants = elim (cases_Bool (had n)) [
+      | inl e ↦ e
+      | inr e ↦ absurd (none n C is (left_is n ∙ and_from (wanted n) (not (had n)) wants (ap not e)))
+    ]
+
+    shown_so : (n : ℕ) → had n ≡ false → found n ≡ true → shown n ≡ true
+    shown_so n off e = elim (or_cases (shown n) (had n) (sym (found_is n) ∙ e)) [
+      | inl t ↦ t
+      | inr t ↦ absurd (true≢false (sym t ∙ off))
+    ]
+
+    pub had_exact : IsExact p.header m wanted found (IsKnown O m Those (IsPastIn p.header m carries))
+    had_exact n (Fact.Now L) is wants =
+        let off = now_open n L is in
+        let opened = left_is n ∙ and_from (wanted n) (not (had n)) wants (ap not off) in (
+          λ e. record { fact = (n, is); holds = (exact n (Fact.Now L) is opened).0 (shown_so n off e) },
+          λ w. found_is n ∙ or_left (shown n) (had n) ((exact n (Fact.Now L) is opened).1 w.holds),
+        )
+    had_exact n (Fact.Past C) is wants =
+        let on = past_had n C is wants in (
+          λ e. carried (n, is) (n, is, (and_parts (carries n) (past n) (sym (had_is n) ∙ on)).0),
+          λ w. found_is n ∙ or_right (shown n) (had n) on,
+        )

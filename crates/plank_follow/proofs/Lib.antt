@@ -3,3 +3,4 @@ pub mod Lists
 pub mod Additions
 pub mod Ways
 pub mod Ends
+pub mod Joined

@@ -1,7 +1,7 @@
 -- On the way to all that follows: what is known follows, and all is known that follows by one use from what is done.
 use Rattle.std.specs.Prelude.{◌≡◌, ◌⊎◌, ℕ, ◌*◌, ◌-◌, ◌<◌, ◌==◌, Bool, true, false, ◌||◌, List}
 use Rattle.std.proofs.Common.{refl, sym, ◌∙◌, subst, inl, inr, arith}
-use Rattle.std.proofs.lemmas.Bool.{or_cases, or_left, or_right, eqb-true, eq-eqb, true≢false, false≢true}
+use Rattle.std.proofs.lemmas.Bool.{or_cases, or_left, or_right, eqb-true, eq-eqb, true≢false}
 use Rattle.plank_base.specs.declared.limits.TheConstants.{MARK_WORDS_PER_LOCATION}
 use Rattle.plank_bits.specs.Words.{IsWithin, count_below}
 use Rattle.plank_bits.proofs.SetLemmas.{count_below-le}
@@ -13,6 +13,7 @@ use Rattle.plank_fact.specs.Tables.{IsNumbered, IsFactOf}
 use Rattle.plank_fact.specs.Outlines.{Outline}
 use Rattle.plank_fact.proofs.Numbered.{numbers_agree}
 use Rattle.plank_follow.specs.Following.{IsFollowingFrom, Follows, begins, goes_on, AddsPast, AreFollowing}
+use Rattle.plank_follow.specs.Together.{AreSmall, AreUsed}
 use Rattle.plank_follow.proofs.Sorts.{one_past}
 
 module _ (O : Outline) (m : Method) (lasting presents : List Literal) (start : ℕ → Bool) where
@@ -22,13 +23,12 @@ module _ (O : Outline) (m : Method) (lasting presents : List Literal) (start : �
     pub within : (k : ℕ) → done k ≡ true → known k ≡ true
     pub used : (k j : ℕ) (C : Literal) → done k ≡ true → IsNumbered O.header m j (Fact.Past C) → IsFollowingFrom O m lasting presents k C → known j ≡ true
 
-  pub way_begins : (done : ℕ → Bool) → ((k : ℕ) → done k ≡ false) → IsOnTheWay start done
-  way_begins done none = record {
-    kept = λ k s. s;
-    only = λ k s. inl s;
-    within = λ k d. absurd (false≢true (sym (none k) ∙ d));
-    used = λ k j C d is w. absurd (false≢true (sym (none k) ∙ d));
-  }
+  pub way_begins : (done : ℕ → Bool) → IsWithin done start → AreUsed O m lasting presents done start → IsOnTheWay start done
+  way_begins done within used = record { kept = λ k s. s; only = λ k s. inl s; within = within; used = used }
+
+  -- all that is wanted is there at first
+  pub start_suffices : (wanted : ℕ → Bool) → IsWithin wanted start → AreFollowing O m lasting presents start wanted start
+  start_suffices wanted all = record { kept = λ k s. s; only = λ k s. inl s; all = λ k C wants is f. all k wants }
 
   follows_of : (known done : ℕ → Bool) → IsOnTheWay known done → (k : ℕ) (P : Literal) → IsNumbered O.header m k (Fact.Past P) → known k ≡ true → Follows O m lasting presents start P
   follows_of known done way k P is e = elim (way.only k e) [
@@ -76,9 +76,6 @@ module _ (O : Outline) (m : Method) (lasting presents : List Literal) (start : �
   way_suffices known done wanted way all = record { kept = way.kept; only = way.only; all = λ k C wants is f. all k wants }
 
 -- ---- each step does one more
-
-abbrev pub AreSmall : (ℕ → Bool) → Type 0
-AreSmall done = (k : ℕ) → done k ≡ true → k < 64 * MARK_WORDS_PER_LOCATION
 
 module _ (done next : ℕ → Bool) (n : ℕ) (is : (k : ℕ) → next k ≡ (done k || (k == n))) where
   pub still_small : AreSmall done → n < 64 * MARK_WORDS_PER_LOCATION → AreSmall next

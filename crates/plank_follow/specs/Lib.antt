@@ -2,3 +2,4 @@ pub mod Kinds
 pub mod Literals
 pub mod Following
 pub mod Known
+pub mod Together

@@ -72,10 +72,15 @@ impl<'a, Q: Oracle> Following<'a, Q> {
             (IsKnownFrom (outline_of self.now.arrivals.program.now self.now.marks.now) m self.now.arrivals.situation
             self.now.arrivals.claims.now (has carried.now))) }
     {
-        if wants_past(self.arrivals.program, self.arrivals.method, wanted) {
+        let program = self.arrivals.program;
+        let past = of_kind(program, self.arrivals.method, true);
+        let had = carried.meet(&past);
+        let open = wanted.minus(&had);
+        if wants_past(program, self.arrivals.method, &open) {
             self.followed(alloc, carried, wanted)
         } else {
-            self.arrivals.shown(alloc, wanted)
+            let shown = self.arrivals.shown(alloc, &open)?;
+            Ok(shown.union(&had))
         }
     }
 }

@@ -6,6 +6,7 @@ mod kinds;
 mod known;
 mod literals;
 mod rules;
+mod together;
 
 pub use kinds::{of_kind, wants_past, with_if};
 pub use known::Following;

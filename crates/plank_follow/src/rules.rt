@@ -1,7 +1,7 @@
 // Uses of the rule of hindsight, one after the other.
 ghost use Rattle.std.specs.Prelude.{◌≡◌, ℕ, ◌*◌, ◌<◌, true, false, length, slice_get, Some, IfOk, IfSome, IsNone};
 ghost use Rattle.plank_base.specs.declared.limits.TheConstants.{MARK_WORDS_PER_LOCATION};
-ghost use Rattle.plank_bits.specs.Words.{has};
+ghost use Rattle.plank_bits.specs.Words.{has, IsWithin};
 ghost use Rattle.plank_prog.specs.declared.methods.Method.{Method};
 ghost use Rattle.plank_fact.specs.declared.facts.Fact.{Fact};
 ghost use Rattle.plank_fact.specs.Tables.{IsNumbered};
@@ -10,8 +10,10 @@ ghost use Rattle.plank_marks.specs.Marks.{mark_words};
 ghost use Rattle.plank_method.specs.Deciding.{outline_of};
 ghost use Rattle.plank_follow.specs.Kinds.{kind_below};
 ghost use Rattle.plank_follow.specs.Following.{IsGiven, IsFollowing, IsFollowingFrom, AddsPast, AreFollowing};
+ghost use Rattle.plank_follow.specs.Together.{AreSmall, AreUsed};
 
 use crate::literals::{literals, past_of};
+use crate::together::together;
 use plank_base::OutOfMemory;
 use plank_bits::MarkWords;
 use plank_fact::{FactSet, fact};
@@ -141,6 +143,48 @@ impl<'a, Q: Oracle> Rules<'a, Q> {
         known.meet(self.past).minus(done).next_from(0)
     }
 
+    // Known past facts of which all is known that follows by one use: all of them, where one picture in
+    // which all is true that the rule may take refutes each other past fact; else none.
+    fn done_at_once(&self, alloc: Global, known: &FactSet) -> Result<FactSet, OutOfMemory>
+        ensures small { IfOk result (λ done. AreSmall (has done)) }
+        ensures within { IfOk result (λ done. IsWithin (has done) (has known.now)) }
+        ensures used { IfOk result (λ done. (m : Method) →
+            slice_get self.now.program.now.methods self.now.method ≡ Some m →
+            AreUsed (outline_of self.now.program.now self.now.marks.now) m self.now.lasting.now
+            self.now.presents.now (has done) (has known.now)) }
+    {
+        let none = FactSet::empty();
+        let Some(number) = self.next(known, &none) else {
+            return Ok(none);
+        };
+        let Some(past) = past_of(fact(self.program, self.method, number)) else {
+            return Ok(none);
+        };
+        let all = together(
+            alloc,
+            self.program,
+            self.method,
+            self.lasting,
+            self.presents,
+            known,
+        )?;
+        let rules = Rules {
+            oracle: self.oracle,
+            program: self.program,
+            method: self.method,
+            marks: self.marks,
+            past: self.past,
+            lasting: all.as_slice(),
+            presents: self.presents,
+        };
+        let more = rules.more_by(alloc, past, None, known)?;
+        if more.subset(known) {
+            Ok(known.meet(self.past))
+        } else {
+            Ok(none)
+        }
+    }
+
     /// The start, and the past facts that follow from it; of those that are not wanted perhaps not all.
     pub(crate) fn follow(
         &self,
@@ -153,8 +197,11 @@ impl<'a, Q: Oracle> Rules<'a, Q> {
             AreFollowing (outline_of self.now.program.now self.now.marks.now) m self.now.lasting.now
             self.now.presents.now (has start.now) (has wanted.now) (has found)) }
     {
+        if wanted.subset(start) {
+            return Ok(*start);
+        }
         let mut known = *start;
-        let mut done = FactSet::empty();
+        let mut done = self.done_at_once(alloc, start)?;
         while !wanted.subset(&known) {
             let Some(number) = self.next(&known, &done) else {
                 return Ok(known);

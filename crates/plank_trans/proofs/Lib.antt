@@ -4,3 +4,4 @@ pub mod Pairs
 pub mod Moved
 pub mod Carries
 pub mod Steps
+pub mod Kept

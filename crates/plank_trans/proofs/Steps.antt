@@ -1,6 +1,6 @@
 -- The pictures after the steps of a location are those in which calls arrive, of which the claims of the location are right.
 use Rattle.std.specs.Prelude.{◌≡◌, ℕ, Bool, true, List, [], length, slice_get, Some}
-use Rattle.std.proofs.Common.{refl, sym, ◌∙◌, ap, ap₂, subst}
+use Rattle.std.proofs.Common.{refl, sym, ◌∙◌, ap, ap₂, subst, inl, inr}
 use Rattle.std.proofs.lemmas.Option.{same_Some}
 use Rattle.plank_bits.specs.Words.{has}
 use Rattle.plank_prog.specs.declared.headers.Header.{Header}
@@ -9,12 +9,11 @@ use Rattle.plank_prog.specs.declared.programs.Program.{Program}
 use Rattle.plank_pic.specs.declared.literals.Literal.{Literal}
 use Rattle.plank_pic.specs.declared.literals.Exit.{Exit}
 use Rattle.plank_pic.specs.Pictures.{Picture}
-use Rattle.plank_pic.specs.Calls.{own_turn}
 use Rattle.plank_pic.specs.Truths.{truth}
 use Rattle.plank_fact.specs.declared.facts.Fact.{Fact}
 use Rattle.plank_fact.specs.Tables.{IsNumbered, IsFactOf}
 use Rattle.plank_fact.specs.Outlines.{Outline, Point}
-use Rattle.plank_fact.specs.OwnSteps.{is_yes, turn_at, IsOwnStep}
+use Rattle.plank_fact.specs.OwnSteps.{turn_at, IsOwnStep}
 use Rattle.plank_fact.specs.After.{IsAlwaysLasting, IsOncePast, seen, carried, hindsight, IsPictureAfter, IsCarried, IsAfter}
 use Rattle.plank_fact.specs.Forced.{outline}
 use Rattle.plank_fact.proofs.Monotone.{always_less, hindsight_less}
@@ -34,7 +33,8 @@ use Rattle.plank_shown.specs.Shown.{Arrives}
 use Rattle.plank_follow.specs.Known.{IsPastIn, IsKnownFrom}
 use Rattle.plank_marks.proofs.Rooms.{IsThere}
 use Rattle.plank_trans.specs.Turns.{IsTurnOf}
-use Rattle.plank_trans.specs.Carried.{AreCarried}
+use Rattle.plank_trans.proofs.Kept.{own_turn_is}
+use Rattle.plank_trans.specs.Carried.{AreCarried, AreEnough}
 
 -- past facts from more pictures, where what is carried of the table is carried
 module _ (h : Header) (methods : List Method) (marks : ℕ → Bool) (m : Method) (A B : Picture → Type 0) (C D : Literal → Type 0) (more : (p : Picture) → A p → B p)
@@ -55,7 +55,7 @@ module _ (program : Program) (words : List ℕ) (m l : ℕ) (t : OwnTurn) (claim
   S = Situation.Step t
 
   pub turn_is : turn_of_own t ≡ turn_at O x e
-  turn_is = ap₂ (λ v a. own_turn v a (is_yes t.exit)) at.variables at.action ∙ ap (λ w. own_turn (length x.method.variables) x.location.action (is_yes w)) at.exit
+  turn_is = own_turn_is O x t e at
 
   pub steps_own : (before after : Picture) → IsSituated program.header S before after → AreRight program.header S before claims → IsOwnStep O x e before after
   steps_own before after s right =
@@ -76,25 +76,27 @@ module _ (program : Program) (words : List ℕ) (m l : ℕ) (t : OwnTurn) (claim
   after_arrives p w = record { before = w.0; situated = own_situated w.0 p w.1; right = own_right w.0 p w.1 }
 
   -- what is known where what is carried is in a set
-  pub after_exact : (wanted held known : ℕ → Bool)
-      → ((n : ℕ) (L : Literal) → IsNumbered program.header x.method n (Fact.Past L) → wanted n ≡ true → AreCarried O x e held)
+  pub after_exact : (wanted held known : ℕ → Bool) → AreEnough O x e wanted held
       → IsExact program.header x.method wanted known (IsKnownFrom O x.method S claims held) → IsExact program.header x.method wanted known (IsAfter O x e)
-  after_exact wanted held known carries exact n (Fact.Now L) is wants = (
+  after_exact wanted held known enough exact n (Fact.Now L) is wants = (
     λ k. always_less program.header program.methods (has words) (has words) (λ i b. b) x.method (IsPictureAfter O x e) (Arrives program.header S claims) after_arrives L ((exact n (Fact.Now L) is wants).0 k),
     λ a. (exact n (Fact.Now L) is wants).1 (always_less program.header program.methods (has words) (has words) (λ i b. b) x.method (Arrives program.header S claims) (IsPictureAfter O x e) arrives_after L a),
   )
-  after_exact wanted held known carries exact n (Fact.Past L) is wants = (
+  after_exact wanted held known enough exact n (Fact.Past L) is wants = (
     λ k. once_past_with program.header program.methods (has words) x.method (IsPictureAfter O x e) (Arrives program.header S claims)
         (IsCarried O x e) (IsPastIn program.header x.method held) after_arrives in_carried L ((exact n (Fact.Past L) is wants).0 k),
-    λ a. (exact n (Fact.Past L) is wants).1 (once_past_with program.header program.methods (has words) x.method (Arrives program.header S claims) (IsPictureAfter O x e)
-        (IsPastIn program.header x.method held) (IsCarried O x e) arrives_after carried_in L a),
+    λ a. (exact n (Fact.Past L) is wants).1 (elim (enough.all n L is wants) [
+      | inl there ↦ carried (n, is) (n, is, there)
+      | inr all ↦ once_past_with program.header program.methods (has words) x.method (Arrives program.header S claims) (IsPictureAfter O x e)
+          (IsPastIn program.header x.method held) (IsCarried O x e) arrives_after (carried_in all) L a
+    ]),
   )
     where
       in_carried : (K : Literal) → IsFactOf program.header x.method (Fact.Past K) → IsPastIn program.header x.method held K → IsCarried O x e K
-      in_carried K f w = (carries n L is wants w.0 K w.1).0 w.2
+      in_carried K f w = enough.carried w.0 K w.1 w.2
 
-      carried_in : (K : Literal) → IsFactOf program.header x.method (Fact.Past K) → IsCarried O x e K → IsPastIn program.header x.method held K
-      carried_in K f w = (f.0, f.1, (carries n L is wants f.0 K f.1).1 w)
+      carried_in : AreCarried O x e held → (K : Literal) → IsFactOf program.header x.method (Fact.Past K) → IsCarried O x e K → IsPastIn program.header x.method held K
+      carried_in all K f w = (f.0, f.1, (all f.0 K f.1).1 w)
 
 -- the own call's variables are those of the method
 pub own_size : {methods : List Method} (m l : ℕ) (e : Exit) (t : OwnTurn) → IsThere methods m l → ((x : Point methods) → x.m ≡ m → x.l ≡ l → IsOwnTurnAt x e t)

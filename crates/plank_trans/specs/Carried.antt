@@ -1,5 +1,5 @@
 -- What a step carries along: names that stay those of nodes, and past facts of them.
-use Rattle.std.specs.Prelude.{◌≡◌, ◌↔◌, ℕ, ◌+◌, ◌*◌, ◌/◌, ◌%◌, ◌<◌, Bool, true, false, List, length, slice_get, Some}
+use Rattle.std.specs.Prelude.{◌≡◌, ◌↔◌, ◌⊎◌, ℕ, ◌+◌, ◌*◌, ◌/◌, ◌%◌, ◌<◌, Bool, true, false, List, length, slice_get, Some}
 use Rattle.plank_pic.specs.declared.literals.Literal.{Literal}
 use Rattle.plank_pic.specs.declared.literals.Exit.{Exit}
 use Rattle.plank_pic.specs.Pictures.{Picture}
@@ -55,3 +55,8 @@ IsCarriedBelow O x e L to count = (from : ℕ) × (from < count) × IsCarriedFro
 -- the past facts that are carried are just those of a set
 abbrev pub AreCarried : (O : Outline) → Point O.methods → Exit → (ℕ → Bool) → Type 0
 AreCarried O x e set = (n : ℕ) (L : Literal) → IsNumbered O.header x.method n (Fact.Past L) → (set n ≡ true) ↔ IsCarried O x e L
+
+-- those of a set are carried; and all that are carried are in it, if some wanted one is not
+pub record AreEnough (O : Outline) (x : Point O.methods) (e : Exit) (wanted set : ℕ → Bool) : Type 0 where
+  pub carried : (n : ℕ) (L : Literal) → IsNumbered O.header x.method n (Fact.Past L) → set n ≡ true → IsCarried O x e L
+  pub all : (n : ℕ) (L : Literal) → IsNumbered O.header x.method n (Fact.Past L) → wanted n ≡ true → (set n ≡ true) ⊎ AreCarried O x e set

@@ -3,6 +3,7 @@
 
 mod carrying;
 mod entering;
+mod keeping;
 mod moves;
 mod names;
 mod stepping;

@@ -16,9 +16,10 @@ ghost use Rattle.plank_claim.specs.declared.known.Known.{Known};
 ghost use Rattle.plank_claim.specs.Claims.{AddsClaims};
 ghost use Rattle.plank_method.specs.Deciding.{outline_of, IsExact};
 ghost use Rattle.plank_trans.specs.Turns.{IsTurnOf};
-ghost use Rattle.plank_trans.specs.Carried.{AreMoves, AreCarried};
+ghost use Rattle.plank_trans.specs.Carried.{AreMoves, AreEnough};
 
 use crate::carrying::Carrying;
+use crate::keeping::Keeping;
 use crate::moves::move_goals;
 use plank_base::OutOfMemory;
 use plank_bits::MarkWords;
@@ -89,17 +90,26 @@ impl<'a, Q: Oracle> Stepped<'a, Q> {
         reached(self.oracle, alloc, &question)
     }
 
-    // The past facts that are carried along, where one of the wanted facts is past.
+    // Past facts that are carried along: all, or each that is wanted.
     fn carried(&self, alloc: Global, wanted: &FactSet) -> Result<FactSet, OutOfMemory>
         ensures { IfOk result (λ carried. (x : Point self.now.program.now.methods) →
-            IsTurnOf x self.now.at.method self.now.at.location self.now.turn → (n : ℕ) (L : Literal) →
-            IsNumbered self.now.program.now.header x.method n (Fact.Past L) → has wanted.now n ≡ true →
-            AreCarried (outline_of self.now.program.now self.now.marks.now) x self.now.turn.exit (has carried)) }
+            IsTurnOf x self.now.at.method self.now.at.location self.now.turn →
+            AreEnough (outline_of self.now.program.now self.now.marks.now) x self.now.turn.exit (has wanted.now)
+            (has carried)) }
     {
-        if !wants_past(self.program, self.at.method, wanted) {
-            return Ok(FactSet::empty());
-        }
         let names = u32::from(self.turn.variables) + 1;
+        let keeping = Keeping {
+            program: self.program,
+            at: self.at,
+            turn: self.turn,
+            marks: self.marks,
+            names,
+        };
+        let kept = keeping.kept();
+        let open = wanted.minus(&kept);
+        if !wants_past(self.program, self.at.method, &open) {
+            return Ok(kept);
+        }
         let moved = self.moved(alloc, names)?;
         let carrying = Carrying {
             program: self.program,

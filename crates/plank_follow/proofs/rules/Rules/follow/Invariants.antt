@@ -5,7 +5,8 @@ use Rattle.plank_base.specs.declared.limits.TheConstants.{MARK_WORDS_PER_LOCATIO
 use Rattle.plank_bits.specs.Words.{has, count_below}
 use Rattle.plank_prog.specs.declared.methods.Method.{Method}
 use Rattle.plank_method.specs.Deciding.{outline_of}
-use Rattle.plank_follow.proofs.Ways.{IsOnTheWay, AreSmall}
+use Rattle.plank_follow.specs.Together.{AreSmall}
+use Rattle.plank_follow.proofs.Ways.{IsOnTheWay}
 use Rattle.plank_follow.proofs.rules.Rules.follow.Given as goal
 
 abbrev pub invariant-loop-alloc : goal.invariant-loop-alloc
