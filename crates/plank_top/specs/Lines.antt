@@ -1,7 +1,6 @@
 -- The one line of a refusal.
 use Rattle.std.specs.Prelude.{ℕ, List, [], ◌++◌, codes}
 use Rattle.std.specs.Fmt.{decimal}
-use Rattle.plank_base.specs.declared.places.Place.{Place}
 use Rattle.plank_base.specs.declared.limits.Thing.{Thing}
 use Rattle.plank_base.specs.declared.limits.Thing.TheVariants.{Bytes, Nesting, Methods, Variables, Flags, Pointers, Nodes, Locations, Sites, EffectFacts}
 use Rattle.plank_base.specs.declared.typing.TypeKind.{TypeKind}
