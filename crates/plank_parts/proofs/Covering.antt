@@ -161,7 +161,14 @@ module _ (F : Frame) (few_names : F.names ≤ 16) (few_pointers : length F.heade
 
 -- the same, along the builder's step
 pub covers_added : (F : Frame) (keeps : Part → Bool) (c : ℕ) (T grown : Table) (part : Part) (there kept : Bool) →
-    part ≡ part_of c → there ≡ is_coded F c → kept ≡ keeps part → Covers F keeps c T → grown ≡ with_code T part there kept → Covers F keeps (c + 1) grown
-covers_added F keeps c T grown part there kept part_is there_is kept_is so_far grown_is =
-    rw (grown_is ∙ ap (λ (q : Part). with_code T q there kept) part_is ∙ ap (λ (b : Bool). with_code T (part_of c) b kept) there_is
-    ∙ ap (with_code T (part_of c) (is_coded F c)) (kept_is ∙ ap keeps part_is)) (covers_more F keeps c T so_far)
+    part ≡ part_of c → there ≡ is_coded F c → (there ≡ true → kept ≡ keeps part) → Covers F keeps c T → grown ≡ with_code T part there kept → Covers F keeps (c + 1) grown
+covers_added F keeps c T grown part there kept part_is there_is kept_is so_far grown_is = by_bit there refl
+  where
+    by_bit : (b : Bool) → there ≡ b → Covers F keeps (c + 1) grown
+    by_bit true e =
+        rw (grown_is ∙ ap (λ (q : Part). with_code T q there kept) part_is ∙ ap (λ (b : Bool). with_code T (part_of c) b kept) there_is
+        ∙ ap (with_code T (part_of c) (is_coded F c)) (kept_is e ∙ ap keeps part_is)) (covers_more F keeps c T so_far)
+    -- what is said of whether it is kept is not read
+    by_bit false e =
+        rw (grown_is ∙ ap (λ (b : Bool). with_code T part b kept) e
+        ∙ ap (λ (b : Bool). with_code T (part_of c) b (keeps (part_of c))) (sym e ∙ there_is)) (covers_more F keeps c T so_far)

@@ -1,4 +1,4 @@
-ghost use Rattle.std.specs.Prelude.{◌≡◌, ◌≤◌, ◌<◌, ◌+◌, ◌^◌, [], length, IfOk, OnOk, slice_get, slice_index_or};
+ghost use Rattle.std.specs.Prelude.{◌≡◌, ◌≤◌, ◌<◌, ◌+◌, ◌^◌, true, [], length, IfOk, OnOk, slice_get, slice_index_or};
 ghost use Rattle.plank_parts.specs.Codes.{part_code, part_of};
 ghost use Rattle.plank_parts.specs.Numbers.{Covers, number, with_code, is_coded};
 ghost use Rattle.plank_parts.specs.Shapes.{frame_of};
@@ -113,6 +113,13 @@ fn is_coded(shape: &Shape<'_>, part: Part, code: usize) -> bool
     shape.fits(part) && part_code(part) == code
 }
 
+// Whether a part is kept, asked only where it is one of the frame's.
+fn is_kept<K: Keeps>(keeps: &K, part: Part, is_coded: bool) -> bool
+    ensures { is_coded ≡ true → result ≡ K.keeps keeps.now part }
+{
+    !is_coded || keeps.keeps(part)
+}
+
 // One more code.
 fn add_code<K: Keeps>(
     table: &mut Table,
@@ -125,7 +132,8 @@ fn add_code<K: Keeps>(
     ensures { OnOk result (Covers (frame_of shape.now) (K.keeps keeps.now) (code + 1) table.new) }
 {
     let part = part_of(code);
-    table.add(part, is_coded(shape, part, code), keeps.keeps(part))
+    let there = is_coded(shape, part, code);
+    table.add(part, there, is_kept(keeps, part, there))
 }
 
 /// The table of a frame, in which a part that is kept has one number for both pictures.

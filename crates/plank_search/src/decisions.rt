@@ -68,8 +68,13 @@ fn most_blamed_waiting(values: &Values, hints: &Hints) -> Option<usize>
     ensures { IsOpenIfSome values.now result }
 {
     let mut best = None;
-    for constraint in 0..hints.waiting.len() {
+    let mut from = 0;
+    for _ in 0..hints.waiting.len() {
+        let Some(constraint) = hints.waiting.next_needing(from) else {
+            return best;
+        };
         best = with_candidate(values, hints, best, hints.waiting.needed(constraint));
+        from = constraint.saturating_add(1);
     }
     best
 }

@@ -151,6 +151,8 @@ pub(crate) struct Waiting {
     previous: Vec<Option<usize>>,
     // The first place of each part's list.
     first: Vec<Option<usize>>,
+    // The constraints that need a part.
+    needing: Numbers,
     // Places and what they waited for, oldest first, to be taken back after a failed branch.
     changes: Vec<(usize, Option<usize>)>,
 }
@@ -164,6 +166,7 @@ impl Waiting {
             next: vec![in alloc; None; places]?,
             previous: vec![in alloc; None; places]?,
             first: vec![in alloc; None; parts]?,
+            needing: Numbers::new(alloc, constraints)?,
             changes: Vec::new(alloc),
         })
     }
@@ -176,6 +179,11 @@ impl Waiting {
     /// The part that a constraint needs.
     pub(crate) fn needed(&self, constraint: usize) -> Option<usize> {
         entry(&self.part, constraint.saturating_mul(3))
+    }
+
+    /// The first constraint from this number on that needs a part.
+    pub(crate) fn next_needing(&self, from: usize) -> Option<usize> {
+        self.needing.next_from(from)
     }
 
     /// The first place that waits for a part.
@@ -231,8 +239,16 @@ impl Waiting {
         }
     }
 
+    // Notes whether a constraint needs a part, at the first of its places.
+    fn note_need(&mut self, place: usize, is_needing: bool) {
+        if place % 3 == 0 {
+            self.needing.set(place / 3, is_needing);
+        }
+    }
+
     fn link(&mut self, place: usize, part: Option<usize>) {
         set_entry(&mut self.part, place, part);
+        self.note_need(place, part.is_some());
         let Some(part) = part else { return };
         let old = entry(&self.first, part);
         set_entry(&mut self.next, place, old);
@@ -257,6 +273,51 @@ impl Waiting {
             set_entry(&mut self.previous, next, previous);
         }
         set_entry(&mut self.part, place, None);
+    }
+}
+
+/// A set of numbers, in order.
+#[derive(Debug, Drop)]
+struct Numbers {
+    words: Vec<u64>,
+}
+
+impl Numbers {
+    // The empty set, with room for the numbers below a bound.
+    fn new(alloc: Global, bound: usize) -> Result<Numbers, OutOfMemory> {
+        Ok(Numbers {
+            words: vec![in alloc; 0; bound / 64 + 1]?,
+        })
+    }
+
+    fn set(&mut self, number: usize, is_member: bool) {
+        let word = number / 64;
+        if word < self.words.len() {
+            let bit = 1 << (number % 64) as u32;
+            if is_member {
+                self.words[word] |= bit;
+            } else {
+                self.words[word] &= !bit;
+            }
+        }
+    }
+
+    // The least number in the set that is at least this one.
+    fn next_from(&self, number: usize) -> Option<usize> {
+        let first = number / 64;
+        for at in first..self.words.len() {
+            let mut word = self.words[at];
+            if at == first {
+                word &= u64::MAX << (number % 64) as u32;
+            }
+            if word != 0 {
+                return Some(
+                    at.saturating_mul(64)
+                        .saturating_add(word.trailing_zeros() as usize),
+                );
+            }
+        }
+        None
     }
 }
 

@@ -44,6 +44,13 @@ pub trait Rules {
         constraint < self.watched()
     }
 
+    /// A part whose value a constraint settles by other parts. As long as it is open no value of
+    /// another part is against the constraint, and the look under both values is left out. A hint.
+    fn outcome(&self, constraint: usize) -> Option<usize> {
+        let _ = constraint;
+        None
+    }
+
     /// Looks at a constraint under a partial assignment, reading parts until it is known or an open
     /// one is needed.
     fn look(&self, constraint: usize, values: &Values, reads: &mut Reads) -> Look

@@ -64,7 +64,30 @@ fn turn<R: Rules>(rules: &R, constraint: usize, values: &mut Values, hints: &mut
             hints.waiting.wait(constraint, [None, None, None]);
             Step::Kept
         }
-        Look::Needs(part) => look_under_both(rules, constraint, values, hints, part),
+        Look::Needs(part) => match open_outcome(rules, constraint, values, part) {
+            Some(outcome) => {
+                hints
+                    .waiting
+                    .wait(constraint, [Some(part), Some(outcome), None]);
+                Step::Kept
+            }
+            None => look_under_both(rules, constraint, values, hints, part),
+        },
+    }
+}
+
+// The outcome of a constraint, where it is open and not the part that is needed.
+fn open_outcome<R: Rules>(
+    rules: &R,
+    constraint: usize,
+    values: &Values,
+    needed: usize,
+) -> Option<usize> {
+    let outcome = rules.outcome(constraint)?;
+    if outcome != needed && values.get(outcome).is_none() {
+        Some(outcome)
+    } else {
+        None
     }
 }
 

@@ -6,5 +6,5 @@ use Rattle.plank_parts.proofs.tables.add_code.Goals as goal
 pub returns : goal.returns
 returns g c =
     on_ok_weaker c.add.result
-    (λ grown. covers_added _ _ c.args.code c.args.table.now c.add.new.self c.part_of-part.result c.is_coded.result c.keeps.result c.part_of-part.ensures c.is_coded.ensures c.keeps.ensures c.requires.so_far grown)
+    (λ grown. covers_added _ _ c.args.code c.args.table.now c.add.new.self c.part_of-part.result c.is_coded-there.result c.is_kept.result c.part_of-part.ensures c.is_coded-there.ensures c.is_kept.ensures c.requires.so_far grown)
     c.add.ensures
