@@ -9,6 +9,7 @@ use Rattle.plank_board.specs.declared.views.View.{View}
 use Rattle.plank_board.specs.Events.{newcomer, kept_part, given_part, joined, spent}
 use Rattle.plank_board.specs.Seats.{Sits, IsIdle}
 use Rattle.plank_board.specs.Plays.{Holds}
+use Rattle.plank_board.proofs.Places.{length-bits_of_both, both_within, within_both}
 use Rattle.plank_board.proofs.Keeps.{get_or-replicate_same, no_mark, splits, joins}
 
 module _ (methods words : ℕ) (forces : ℕ → (ℕ → Bool) → ℕ → Type 0) where
@@ -37,7 +38,17 @@ module _ (methods words : ℕ) (forces : ℕ → (ℕ → Bool) → ℕ → Type
 
   pub sits_joined : (v w : View) → Sits methods words forces v → Sits methods words forces w → Sits methods words forces (joined v w)
   sits_joined v w s t =
-      record { parts = omega (arith, s.parts); shape = s.shape; forced = s.forced; looked = s.looked; began = s.began; found = s.found; raised = omega (arith, s.raised, t.raised); noted = s.noted }
+      let h = s.shape in
+      record {
+        parts = omega (arith, s.parts);
+        shape = (h.0, h.1, length-bits_of_both words v.marks w.marks h.2 t.shape.2, h.3, h.4, h.5, h.6);
+        forced = λ c closed. both_within v.marks w.marks c (s.forced c closed) (t.forced c closed);
+        looked = λ k e. within_both v.marks w.marks k (s.looked k e);
+        began = s.began;
+        found = s.found;
+        raised = omega (arith, s.raised, t.raised);
+        noted = s.noted;
+      }
 
   module _ (monotone : IsMonotone forces methods) (seats : ℕ) where
     pub splits_kept : (id : ℕ) (v : View) → 1 < v.parts → v.grows ≡ false → Splits (Holds methods words forces seats) id v (kept_part v) (given_part v)

@@ -16,7 +16,7 @@ use Rattle.plank_board.specs.declared.views.View.{View}
 use Rattle.plank_board.specs.Words.{epoch, settled, mark_word, marks}
 use Rattle.plank_board.specs.Events.{Event, begins, loads, sets, raises, notes, settles, asks, leaves, place, written, seen, newcomer, spent, kept_part, given_part, joined, May, Happens, at_word, by_split, by_join, Follows, opened, after}
 use Rattle.plank_board.specs.Rule.{growing, AreForced, AreSound, Fits, IsKept}
-use Rattle.plank_board.proofs.Places.{set_or_not, set_within, marks_at, marks_below, marks-before, bits_grow, bits_add, bits_count}
+use Rattle.plank_board.proofs.Places.{set_or_not, set_within, both_within, marks_at, marks_below, marks-before, bits_grow, bits_add, bits_count}
 use Rattle.plank_board.proofs.Sums.{sum_at, part_of_sum}
 
 abbrev digit : View → ℕ
@@ -529,7 +529,7 @@ module _ (methods words : ℕ) (forces : ℕ → (ℕ → Bool) → ℕ → Type
         fits_joined : Fits methods words forces ws (growing vs) (joined v w)
         fits_joined =
             record {
-              marked = fit.marked;
+              marked = both_within v.marks w.marks (marks methods ws) fit.marked their.marked;
               looked = fit.looked;
               began = fit.began;
               found = fit.found;

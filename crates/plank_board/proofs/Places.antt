@@ -1,5 +1,5 @@
 -- Lists of words after one is written, and the marks that they are.
-use Rattle.std.proofs.Common.{◌≡◌, ◌≢◌, ◌⊎◌, ℕ, zero, suc, ◌+◌, ◌*◌, ◌/◌, ◌%◌, ◌^◌, ◌<◌, ◌||◌, Bool, true, List, [], ◌∷◌, length, get_or, set, bit_or, sym, ◌∙◌, ap, inl, inr, arith}
+use Rattle.std.proofs.Common.{◌≡◌, ◌≢◌, ◌⊎◌, ℕ, zero, suc, ◌+◌, ◌*◌, ◌/◌, ◌%◌, ◌^◌, ◌<◌, ◌||◌, Bool, true, List, [], ◌∷◌, length, get_or, set, bit_or, refl, sym, ◌∙◌, ap, inl, inr, arith}
 use Rattle.std.specs.Int.{bit_at}
 use Rattle.std.proofs.lemmas.Bool.{cases_eq, cases_lt, false≢true, or_cases, or_left}
 use Rattle.std.proofs.lemmas.Nat.{div-mul-add, mod-mul-add, mod_below, div-add-mod', or_lt}
@@ -9,9 +9,9 @@ use mathlib.Core.Option.{some, some-injective, some-ne-none}
 use lib.ListN.{get_elem?}
 use Rattle.plank_base.proofs.Digits.{digits_from_tests, same_tests}
 use Rattle.plank_bits.specs.Words.{is_set, has, IsWithin, count_below}
-use Rattle.plank_bits.proofs.WordLemmas.{is_set-or, is_set-zero}
+use Rattle.plank_bits.proofs.WordLemmas.{or_false, is_set-or, is_set-zero}
 use Rattle.plank_bits.proofs.RoundLemmas.{count_below-grows}
-use Rattle.plank_board.specs.Words.{mark_word, marks}
+use Rattle.plank_board.specs.Words.{mark_word, marks, bits_of_both}
 
 -- ---- a list of numbers after one is written
 
@@ -44,6 +44,32 @@ set_within l i a c h word k e =
           let there : 64 * i + k % 64 ≡ k = ap (λ n. 64 * n + k % 64) (sym at) ∙ whole k in
           sym (ap c there) ∙ word (k % 64) (mod_below k 64 (omega arith)) (sym (ap (λ w. is_set w (k % 64)) new) ∙ e)
     ]
+
+-- ---- the bits of two lists of words
+
+pub length-bits_of_both : (n : ℕ) (xs ys : List ℕ) → length xs ≡ n → length ys ≡ n → length (bits_of_both xs ys) ≡ n
+length-bits_of_both n [] ys h k = k
+length-bits_of_both n (x ∷ xs) [] h k = h
+length-bits_of_both n (x ∷ xs) (y ∷ ys) h k =
+    let rest = length-bits_of_both (length xs) xs ys refl (omega arith) in
+    omega (arith, rest, h)
+
+bit_of_both : (xs ys : List ℕ) (q j : ℕ) → is_set (get_or (bits_of_both xs ys) q 0) j ≡ (is_set (get_or xs q 0) j || is_set (get_or ys q 0) j)
+bit_of_both [] ys q j = sym (ap (λ b. b || is_set (get_or ys q 0) j) (is_set-zero j))
+bit_of_both (x ∷ xs) [] q j = sym (or_false _ _ (is_set-zero j))
+bit_of_both (x ∷ xs) (y ∷ ys) zero j = is_set-or x y j
+bit_of_both (x ∷ xs) (y ∷ ys) (suc q) j = bit_of_both xs ys q j
+
+-- each mark of both lists is one of the one or the other
+pub has-bits_of_both : (xs ys : List ℕ) (k : ℕ) → has (bits_of_both xs ys) k ≡ (has xs k || has ys k)
+has-bits_of_both xs ys k = bit_of_both xs ys (k / 64) (k % 64)
+
+pub both_within : (xs ys : List ℕ) (c : ℕ → Bool) → IsWithin (has xs) c → IsWithin (has ys) c → IsWithin (has (bits_of_both xs ys)) c
+both_within xs ys c one other k e =
+    elim (or_cases _ _ (sym (has-bits_of_both xs ys k) ∙ e)) [ inl t ↦ one k t | inr t ↦ other k t ]
+
+pub within_both : (xs ys : List ℕ) → IsWithin (has xs) (has (bits_of_both xs ys))
+within_both xs ys k e = has-bits_of_both xs ys k ∙ or_left _ _ e
 
 -- ---- marks
 

@@ -36,10 +36,10 @@ abbrev pub IsReached : View → View → ℕ → Type 0
 IsReached before after k = before.events < slice_index after.reached_at (k / 64)
 
 -- What a post tells. Settled: its method's settled word was raised in this call. Known: each mark beyond the look was set
--- when this seat's step reached its word. Grown: a step of this call set a mark that was clear, and then the epoch was raised
+-- when this seat's step reached its word, and it raised no epoch. Grown: a step of this call set a mark that was clear, and then the epoch was raised
 abbrev pub IsPosted : Posted → ℕ → List ℕ → View → View → Type 0
 IsPosted Settled m found before after = (before.epoch + 1 ≤ slice_index after.noted m) × (before.events < slice_index after.noted_at m)
-IsPosted Known m found before after = (k : ℕ) → has found k ≡ true → has before.look k ≡ false → IsReached before after k × (has after.reached k ≡ true)
+IsPosted Known m found before after = (after.raised ≡ before.raised) × ((k : ℕ) → has found k ≡ true → has before.look k ≡ false → IsReached before after k × (has after.reached k ≡ true))
 IsPosted Grown m found before after = ((k : ℕ) × (has found k ≡ true) × IsReached before after k × (has after.reached k ≡ false) × (slice_index after.reached_at (k / 64) < after.raised_at)) × (0 < after.raised)
 
 -- the settled word of m, as it was loaded in this call

@@ -4,6 +4,7 @@ use mathlib.Core.Option.{some}
 use lib.ListN.{get_elem?}
 use Rattle.plank_bits.specs.Words.{is_set, has}
 use Rattle.plank_board.specs.declared.views.View.{View}
+use Rattle.plank_board.specs.Words.{bits_of_both}
 
 -- the look of a seat is whole: since it began, each of so many words of marks was loaded
 pub record IsWhole (words : ℕ) (v : View) : Type 0 where
@@ -97,9 +98,9 @@ kept_part v = record v { events = suc v.events; parts = v.parts - 1 }
 abbrev pub given_part : View → View
 given_part v = record v { parts = 1 }
 
--- a seat takes in another: it keeps its look, has the parts of both, and the later raise and leaving
+-- a seat takes in another: it keeps its look, has the parts and the marks of both, and the later raise and leaving
 abbrev pub joined : View → View → View
-joined v w = record v { events = suc v.events; parts = v.parts + w.parts; raised = max v.raised w.raised; left = max v.left w.left }
+joined v w = record v { events = suc v.events; parts = v.parts + w.parts; marks = bits_of_both v.marks w.marks; raised = max v.raised w.raised; left = max v.left w.left }
 
 -- methods, words, and what each method forces
 module _ (methods words : ℕ) (forces : ℕ → (ℕ → Bool) → ℕ → Type 0) where

@@ -16,6 +16,10 @@ pub record Seated : Type 0 where
   pub table : TableId
   pub view : View
 
+-- a seat of the table, for one worker
+abbrev pub IsSeatOfOne : TableId → Seated → Type 0
+IsSeatOfOne table s = (s.table ≡ table) × (s.view.parts ≡ 1)
+
 -- one list of words and one of settled words for each thing that is seen of them
 abbrev pub IsShaped : ℕ → ℕ → View → Type 0
 IsShaped methods words v =

@@ -1,5 +1,5 @@
 -- Where the words of a board stand: first the epoch, then a settled word for each method, then the words of marks.
-use Rattle.std.specs.Prelude.{ℕ, ◌+◌, ◌/◌, ◌%◌, Bool, List, slice_index}
+use Rattle.std.specs.Prelude.{ℕ, ◌+◌, ◌/◌, ◌%◌, Bool, List, [], ◌∷◌, slice_index, bit_or}
 use Rattle.plank_bits.specs.Words.{is_set}
 
 -- how often a seat has told that it set marks that were clear
@@ -17,3 +17,9 @@ mark_word methods ws i = slice_index ws (methods + 1 + i)
 -- which marks are set
 abbrev pub marks : ℕ → List ℕ → ℕ → Bool
 marks methods ws k = is_set (mark_word methods ws (k / 64)) (k % 64)
+
+-- the words of two lists, each with the bits of both
+abbrev pub bits_of_both : List ℕ → List ℕ → List ℕ
+bits_of_both [] ys = ys
+bits_of_both (x ∷ xs) [] = x ∷ xs
+bits_of_both (x ∷ xs) (y ∷ ys) = bit_or x y ∷ bits_of_both xs ys

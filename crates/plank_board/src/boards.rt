@@ -149,8 +149,8 @@ impl<N: Named> Board<N> {
         })
     }
 
-    /// Takes another seat in: its parts, and the later of both last raises and of both leavings. The look
-    /// stays.
+    /// Takes another seat in: its parts, the marks that it has seen, and the later of both last raises and of
+    /// both leavings. The look stays.
     pub fn join(&self, seat: &mut Seat<N>, other: Seat<N>)
         requires board { seat.old.table ≡ self.now.table }
         requires other { other.table ≡ self.now.table }

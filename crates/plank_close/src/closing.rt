@@ -1,6 +1,7 @@
 ghost use Rattle.plank_search.specs.Answers.{Propagates};
 ghost use Rattle.plank_close.specs.Clauses.{Shows};
 
+use crate::orders::Ordered;
 use crate::saying::{Said, Sayer};
 use plank_parts::{Numbering, Side};
 use plank_pic::Part;
@@ -39,7 +40,7 @@ impl<'n, 's> Sayer<'n, 's> {
     fn close_said(self, said: Said, values: &mut Values, reads: &mut Reads) -> bool
         ensures { Propagates (Shows self.entry.numbering.now self.entry.side) values.old values.new result }
     {
-        self.not_null(said.part, values, reads)
+        (!said.value || self.not_null(said.part, values, reads))
             && self.spread(said, values, reads)
             && self.close_kind(said, values, reads)
     }
@@ -51,10 +52,13 @@ impl<'n, 's> Sayer<'n, 's> {
         match said.part {
             Part::Null { name } => self.close_null(name, said.value, values, reads),
             Part::Same { left, right } => self.close_same(left, right, said.value, values, reads),
-            Part::AtMost { left, right } => self.close_order(left, right, values, reads),
-            Part::Leads { at, to } => self.close_leads(at, to, values, reads),
+            Part::AtMost { left, right } => {
+                let value = said.value;
+                self.close_order(Ordered { left, right, value }, values, reads)
+            }
+            Part::Leads { at, to } => { !said.value || self.close_leads(at, to, values, reads) }
             Part::PointerNull { at } | Part::Beyond { at } => {
-                self.close_unnamed(at, values, reads)
+                self.close_unnamed(at, said.value, values, reads)
             }
             Part::SameBeyond { left, right } => {
                 self.close_beyond(left, right, said.value, values, reads)

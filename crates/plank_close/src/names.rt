@@ -4,6 +4,7 @@ ghost use Rattle.plank_search.specs.Answers.{Propagates};
 ghost use Rattle.plank_close.specs.Clauses.{Shows};
 
 use crate::saying::{Said, Sayer};
+use plank_parts::Side;
 use plank_pic::{Part, Term};
 use plank_search::{Reads, Values};
 use plank_walk::read_as;
@@ -38,7 +39,32 @@ pub(crate) fn names_in(part: Part) -> [Option<u8>; 2] {
     }
 }
 
+// The names of which what a part says is spread.
+fn spread_names(part: Part) -> [Option<u8>; 2] {
+    match part {
+        Part::Same { .. } => [None, None],
+        _ => names_in(part),
+    }
+}
+
+/// Whether two names are one node.
+#[derive(Clone, Copy)]
+struct Alike {
+    left: u8,
+    right: u8,
+    value: bool,
+}
+
 impl<'n, 's> Sayer<'n, 's> {
+    /// The part of a number of the picture before.
+    pub(crate) fn part_at(self, number: usize) -> Option<Part> {
+        let of = self.numbering.at(number)?;
+        match of.side {
+            Side::Before => Some(of.part),
+            Side::After => None,
+        }
+    }
+
     // Whether two names are one node does not go by their order.
     #[tactic(auto, using(crate::proofs::Laws::same_back_law))]
     fn same_back(
@@ -107,26 +133,24 @@ impl<'n, 's> Sayer<'n, 's> {
         )
     }
 
-    fn same_with(
-        self,
-        left: u8,
-        right: u8,
-        other: u8,
-        values: &mut Values,
-        reads: &mut Reads,
-    ) -> bool
+    // Two names, that are one node or are not, with a third.
+    fn same_with(self, pair: Alike, other: u8, values: &mut Values, reads: &mut Reads) -> bool
         ensures { Propagates (Shows self.entry.numbering.now self.entry.side) values.old values.new result }
     {
-        self.same_on(left, right, other, values, reads)
-            && self.same_on(other, left, right, values, reads)
-            && self.same_on(left, other, right, values, reads)
+        let Alike { left, right, value } = pair;
+        if value {
+            self.same_on(left, right, other, values, reads)
+                && self.same_on(other, left, right, values, reads)
+        } else {
+            self.same_on(left, other, right, values, reads)
+        }
     }
 
-    fn same_with_all(self, left: u8, right: u8, values: &mut Values, reads: &mut Reads) -> bool
+    fn same_with_all(self, pair: Alike, values: &mut Values, reads: &mut Reads) -> bool
         ensures { Propagates (Shows self.entry.numbering.now self.entry.side) values.old values.new result }
     {
         for other in 0..self.numbering.shape().names {
-            if !self.same_with(left, right, other, values, reads) {
+            if !self.same_with(pair, other, values, reads) {
                 return false;
             }
         }
@@ -174,11 +198,12 @@ impl<'n, 's> Sayer<'n, 's> {
         true
     }
 
-    /// What a part says of its names, to the other names of their nodes.
+    /// What a part says of its names, to the other names of their nodes. That names are one node is
+    /// left to what `close_same` puts.
     pub(crate) fn spread(self, said: Said, values: &mut Values, reads: &mut Reads) -> bool
         ensures { Propagates (Shows self.entry.numbering.now self.entry.side) values.old values.new result }
     {
-        for name in names_in(said.part) {
+        for name in spread_names(said.part) {
             if let Some(name) = name {
                 if !self.spread_name(said, name, values, reads) {
                     return false;
@@ -209,13 +234,14 @@ impl<'n, 's> Sayer<'n, 's> {
         }
     }
 
-    // What all parts say of a name, to another name of its node.
+    // What all parts say of a name, to another name of its node. Each part has a number of the
+    // picture before, so those of the picture after bring no other.
     fn spread_all(self, other: u8, name: u8, values: &mut Values, reads: &mut Reads) -> bool
         ensures { Propagates (Shows self.entry.numbering.now self.entry.side) values.old values.new result }
     {
         for number in 0..self.numbering.len() {
-            if let Some(of) = self.numbering.at(number) {
-                if !self.spread_to(of.part, other, name, values, reads) {
+            if let Some(part) = self.part_at(number) {
+                if !self.spread_to(part, other, name, values, reads) {
                     return false;
                 }
             }
@@ -238,7 +264,7 @@ impl<'n, 's> Sayer<'n, 's> {
             return true;
         }
         if !self.same_back(left, right, value, values, reads)
-            || !self.same_with_all(left, right, values, reads)
+            || !self.same_with_all(Alike { left, right, value }, values, reads)
         {
             return false;
         }

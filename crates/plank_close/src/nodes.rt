@@ -98,8 +98,8 @@ impl<'n, 's> Sayer<'n, 's> {
         ensures { Propagates (Shows self.entry.numbering.now self.entry.side) values.old values.new result }
     {
         for number in 0..self.numbering.len() {
-            if let Some(of) = self.numbering.at(number) {
-                if !self.bare(name, of.part, values, reads) {
+            if let Some(part) = self.part_at(number) {
+                if !self.bare(name, part, values, reads) {
                     return false;
                 }
             }

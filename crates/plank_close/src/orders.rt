@@ -6,6 +6,14 @@ use crate::saying::{Said, Sayer};
 use plank_pic::{KeyName, Part, Term};
 use plank_search::{Reads, Values};
 
+/// Whether the one of two keys lies at or below the other.
+#[derive(Clone, Copy)]
+pub(crate) struct Ordered {
+    pub(crate) left: Term,
+    pub(crate) right: Term,
+    pub(crate) value: bool,
+}
+
 // The terms that are no names': the ends, the walked keys, and the stop nodes.
 fn other_term(index: u8) -> Term {
     match index {
@@ -67,20 +75,23 @@ impl<'n, 's> Sayer<'n, 's> {
         )
     }
 
-    // Two keys, in order with a third.
+    // Two keys, that lie so or do not, in order with a third.
     fn in_order_with(
         self,
-        left: Term,
-        right: Term,
+        pair: Ordered,
         other: Term,
         values: &mut Values,
         reads: &mut Reads,
     ) -> bool
         ensures { Propagates (Shows self.entry.numbering.now self.entry.side) values.old values.new result }
     {
-        self.in_order(left, right, other, values, reads)
-            && self.in_order(other, left, right, values, reads)
-            && self.in_order(left, other, right, values, reads)
+        let Ordered { left, right, value } = pair;
+        if value {
+            self.in_order(left, right, other, values, reads)
+                && self.in_order(other, left, right, values, reads)
+        } else {
+            self.in_order(left, other, right, values, reads)
+        }
     }
 
     // Any two keys compare.
@@ -108,34 +119,22 @@ impl<'n, 's> Sayer<'n, 's> {
         )
     }
 
-    fn in_order_with_names(
-        self,
-        left: Term,
-        right: Term,
-        values: &mut Values,
-        reads: &mut Reads,
-    ) -> bool
+    fn in_order_with_names(self, pair: Ordered, values: &mut Values, reads: &mut Reads) -> bool
         ensures { Propagates (Shows self.entry.numbering.now self.entry.side) values.old values.new result }
     {
         for name in 0..self.numbering.shape().names {
-            if !self.in_order_with(left, right, Term::Node(name), values, reads) {
+            if !self.in_order_with(pair, Term::Node(name), values, reads) {
                 return false;
             }
         }
         true
     }
 
-    fn in_order_with_others(
-        self,
-        left: Term,
-        right: Term,
-        values: &mut Values,
-        reads: &mut Reads,
-    ) -> bool
+    fn in_order_with_others(self, pair: Ordered, values: &mut Values, reads: &mut Reads) -> bool
         ensures { Propagates (Shows self.entry.numbering.now self.entry.side) values.old values.new result }
     {
         for index in 0..self.other_terms() {
-            if !self.in_order_with(left, right, other_term(index), values, reads) {
+            if !self.in_order_with(pair, other_term(index), values, reads) {
                 return false;
             }
         }
@@ -152,18 +151,11 @@ impl<'n, 's> Sayer<'n, 's> {
     }
 
     /// What follows from how two keys compare.
-    pub(crate) fn close_order(
-        self,
-        left: Term,
-        right: Term,
-        values: &mut Values,
-        reads: &mut Reads,
-    ) -> bool
+    pub(crate) fn close_order(self, pair: Ordered, values: &mut Values, reads: &mut Reads) -> bool
         ensures { Propagates (Shows self.entry.numbering.now self.entry.side) values.old values.new result }
     {
-        self.total(left, right, values, reads)
-            && self.total(right, left, values, reads)
-            && self.in_order_with_names(left, right, values, reads)
-            && self.in_order_with_others(left, right, values, reads)
+        self.total(pair.left, pair.right, values, reads)
+            && self.in_order_with_names(pair, values, reads)
+            && self.in_order_with_others(pair, values, reads)
     }
 }

@@ -7,6 +7,14 @@ use crate::saying::{Said, Sayer};
 use plank_pic::{Part, Place};
 use plank_search::{Reads, Values};
 
+/// Whether two pointers lead to one outside node.
+#[derive(Clone, Copy)]
+struct Together {
+    left: Place,
+    right: Place,
+    value: bool,
+}
+
 impl<'n, 's> Sayer<'n, 's> {
     // Two names to which a pointer leads are one node.
     #[tactic(auto, using(crate::proofs::Laws::one_target_law))]
@@ -97,7 +105,7 @@ impl<'n, 's> Sayer<'n, 's> {
         )
     }
 
-    /// What follows from whether a pointer leads to a named node.
+    /// What follows where a pointer leads to a named node.
     pub(crate) fn close_leads(
         self,
         at: Place,
@@ -120,11 +128,24 @@ impl<'n, 's> Sayer<'n, 's> {
         true
     }
 
-    /// What follows from whether a pointer is null or leads outside.
-    pub(crate) fn close_unnamed(self, at: Place, values: &mut Values, reads: &mut Reads) -> bool
+    /// What follows from whether a pointer is null, or from whether it leads outside.
+    pub(crate) fn close_unnamed(
+        self,
+        at: Place,
+        value: bool,
+        values: &mut Values,
+        reads: &mut Reads,
+    ) -> bool
         ensures { Propagates (Shows self.entry.numbering.now self.entry.side) values.old values.new result }
     {
-        if !self.null_not_beyond(at, values, reads) || !self.beyond_itself(at, values, reads) {
+        self.beyond_itself(at, values, reads) && (!value || self.not_led(at, values, reads))
+    }
+
+    // A pointer that is null or leads outside leads nowhere else.
+    fn not_led(self, at: Place, values: &mut Values, reads: &mut Reads) -> bool
+        ensures { Propagates (Shows self.entry.numbering.now self.entry.side) values.old values.new result }
+    {
+        if !self.null_not_beyond(at, values, reads) {
             return false;
         }
         for to in 0..self.numbering.shape().names {
@@ -236,25 +257,28 @@ impl<'n, 's> Sayer<'n, 's> {
         )
     }
 
+    // Two pointers, that lead to one outside node or do not, with a third.
     fn beyond_with(
         self,
-        left: Place,
-        right: Place,
+        pair: Together,
         other: Place,
         values: &mut Values,
         reads: &mut Reads,
     ) -> bool
         ensures { Propagates (Shows self.entry.numbering.now self.entry.side) values.old values.new result }
     {
-        self.beyond_on(left, right, other, values, reads)
-            && self.beyond_on(other, left, right, values, reads)
-            && self.beyond_on(left, other, right, values, reads)
+        let Together { left, right, value } = pair;
+        if value {
+            self.beyond_on(left, right, other, values, reads)
+                && self.beyond_on(other, left, right, values, reads)
+        } else {
+            self.beyond_on(left, other, right, values, reads)
+        }
     }
 
     fn beyond_with_field(
         self,
-        left: Place,
-        right: Place,
+        pair: Together,
         pointer: u8,
         values: &mut Values,
         reads: &mut Reads,
@@ -262,7 +286,7 @@ impl<'n, 's> Sayer<'n, 's> {
         ensures { Propagates (Shows self.entry.numbering.now self.entry.side) values.old values.new result }
     {
         for name in 0..self.numbering.shape().names {
-            if !self.beyond_with(left, right, Place { name, pointer }, values, reads) {
+            if !self.beyond_with(pair, Place { name, pointer }, values, reads) {
                 return false;
             }
         }
@@ -280,9 +304,10 @@ impl<'n, 's> Sayer<'n, 's> {
     ) -> bool
         ensures { Propagates (Shows self.entry.numbering.now self.entry.side) values.old values.new result }
     {
+        let pair = Together { left, right, value };
         self.beyond_back(left, right, value, values, reads)
             && self.beyond_itself(left, values, reads)
-            && self.beyond_with_field(left, right, 0, values, reads)
-            && self.beyond_with_field(left, right, 1, values, reads)
+            && self.beyond_with_field(pair, 0, values, reads)
+            && self.beyond_with_field(pair, 1, values, reads)
     }
 }

@@ -28,6 +28,14 @@ pub(crate) fn no(part: Part) -> Said
     Said { part, value: false }
 }
 
+// How a picture stands to what is said of it: that it says so already, or the opposite, or neither.
+#[derive(Clone, Copy, PartialEq, Eq, Debug)]
+enum Standing {
+    Said,
+    Denied,
+    Open,
+}
+
 /// The picture before or after, into which what follows is put.
 #[derive(Clone, Copy)]
 pub struct Sayer<'n, 's> {
@@ -54,6 +62,22 @@ impl<'n, 's> Sayer<'n, 's> {
         match self.known(said.part, values) {
             Some(value) => value == said.value,
             None => false,
+        }
+    }
+
+    // How what is said stands.
+    fn standing(self, said: Said, values: &Values) -> Standing
+        ensures { result ≡ Standing.Denied → IsDenied self.entry.numbering.now self.entry.side values.now said }
+    {
+        match self.known(said.part, values) {
+            Some(value) => {
+                if value == said.value {
+                    Standing::Said
+                } else {
+                    Standing::Denied
+                }
+            }
+            None => Standing::Open,
         }
     }
 
@@ -153,20 +177,41 @@ impl<'n, 's> Sayer<'n, 's> {
         goes
     }
 
-    #[tactic(auto, using(crate::proofs::Forcing::then_third, crate::proofs::Forcing::then_middle, crate::proofs::Forcing::then_first, crate::proofs::Forcing::same_narrows))]
+    // One of the last two of three is so, where the first is not.
+    #[tactic(auto, using(crate::proofs::Forcing::then_third, crate::proofs::Forcing::then_middle, crate::proofs::Forcing::same_narrows))]
+    fn put_either(self, first: Said, second: Said, third: Said, values: &mut Values) -> bool
+        requires clause { IsClause self.numbering.now.frame first second third }
+        requires denied { IsDenied self.numbering.now self.side values.old first }
+        ensures { Propagates (Shows self.entry.numbering.now self.entry.side) values.old values.new result }
+    {
+        match self.standing(second, values) {
+            Standing::Said => true,
+            Standing::Denied => self.force(third, values),
+            Standing::Open => {
+                if self.denies(third, values) {
+                    self.force(second, values)
+                } else {
+                    true
+                }
+            }
+        }
+    }
+
+    #[tactic(auto, using(crate::proofs::Forcing::then_first, crate::proofs::Forcing::same_narrows))]
     fn put_last(self, first: Said, second: Said, third: Said, values: &mut Values) -> bool
         requires { IsClause self.numbering.now.frame first second third }
         ensures { Propagates (Shows self.entry.numbering.now self.entry.side) values.old values.new result }
     {
-        let denied = self.denies(first, values);
-        if denied && self.denies(second, values) {
-            self.force(third, values)
-        } else if denied && self.denies(third, values) {
-            self.force(second, values)
-        } else if self.denies(second, values) && self.denies(third, values) {
-            self.force(first, values)
-        } else {
-            true
+        match self.standing(first, values) {
+            Standing::Said => true,
+            Standing::Denied => self.put_either(first, second, third, values),
+            Standing::Open => {
+                if self.denies(second, values) && self.denies(third, values) {
+                    self.force(first, values)
+                } else {
+                    true
+                }
+            }
         }
     }
 }

@@ -3,7 +3,8 @@ ghost use Rattle.std.specs.Prelude.{◌≡◌, ◌*◌, ◌<◌, ◌≤◌, All,
 ghost use Rattle.plank_bits.specs.Words.{has};
 ghost use Rattle.plank_bits.specs.Forced.{IsLeast};
 ghost use Rattle.plank_crew.specs.Names.{IsNameOf};
-ghost use Rattle.plank_crew.specs.Desks.{IsSeatOfOne, HasLeft};
+ghost use Rattle.plank_board.specs.Seats.{IsSeatOfOne};
+ghost use Rattle.plank_crew.specs.Desks.{HasLeft};
 
 use crate::desks::{Desk, join_desks, make_desks};
 use crate::workers::work;

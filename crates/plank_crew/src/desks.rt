@@ -1,6 +1,7 @@
 //! The desks of a crew's workers: a seat each.
 ghost use Rattle.std.specs.Prelude.{◌≡◌, ◌+◌, ◌<◌, All, length, vec_len, IfOk};
-ghost use Rattle.plank_crew.specs.Desks.{IsSeatOfOne, HasLeft};
+ghost use Rattle.plank_board.specs.Seats.{IsSeatOfOne};
+ghost use Rattle.plank_crew.specs.Desks.{HasLeft};
 
 use plank_base::OutOfMemory;
 use plank_board::{Board, Named, Seat};

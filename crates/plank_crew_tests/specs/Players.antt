@@ -11,7 +11,3 @@ pub record HasLook (table : TableId) (words : ℕ) (seat : Seated) (found : List
   pub whole : IsWhole words seat.view
   pub look : found ≡ seat.view.look
   pub size : length found ≡ words
-
--- a seat of the table for one
-abbrev pub IsSeatOfOne : TableId → Seated → Type 0
-IsSeatOfOne table seat = (seat.table ≡ table) × (seat.view.parts ≡ 1)

@@ -37,7 +37,7 @@ impl Held {
     }
 
     fn wait(&self) {
-        for _ in 0..100_000_000 {
+        for _ in 0..2_000_000_000 {
             if self.other.load(Ordering::SeqCst) >= self.until {
                 self.came.store(1, Ordering::SeqCst);
                 return;

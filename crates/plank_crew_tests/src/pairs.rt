@@ -1,7 +1,7 @@
 // Two threads at one board.
 ghost use Rattle.std.specs.Prelude.{◌≡◌, ◌<◌, length, IfOk};
+ghost use Rattle.plank_board.specs.Seats.{IsSeatOfOne};
 ghost use Rattle.plank_crew.specs.Names.{IsNameOf};
-ghost use Rattle.plank_crew_tests.specs.Players.{IsSeatOfOne};
 
 use crate::seats::{post, sit};
 use crate::shapes::pair;

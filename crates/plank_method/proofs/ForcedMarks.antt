@@ -14,13 +14,14 @@ use Rattle.plank_pic.specs.Below.{some_below}
 use Rattle.plank_pic.proofs.Below.{some_found, some_there}
 use Rattle.plank_fact.specs.declared.facts.Fact.{Fact}
 use Rattle.plank_fact.specs.Tables.{facts_of, IsNumbered, fact_at}
-use Rattle.plank_fact.specs.Outlines.{Point, mark_number}
+use Rattle.plank_fact.specs.Outlines.{Outline, Point, mark_number}
 use Rattle.plank_fact.specs.Forced.{IsRefuted, at_entry, after, broken, Forces}
 use Rattle.plank_fact.proofs.Counts.{number_within, facts_have_room}
 use Rattle.plank_fact.proofs.Limits.{few_variables}
 use Rattle.plank_method.specs.Deciding.{outline_of}
 use Rattle.plank_method.specs.Marks.{facts_below, is_claimed, unmarked_below, is_put}
 use Rattle.plank_marks.proofs.Rooms.{IsThere}
+use Rattle.plank_method.specs.Passes.{AreForcedAt}
 use Rattle.plank_method.specs.Runs.{IsSiftedAt, IsHadAtEntry, IsHadFrom, IsKept, IsForcedAt, IsForcedWithin, IsJustified, AreJustified}
 
 abbrev marks_each : ℕ
@@ -36,6 +37,10 @@ fact_has_room p m method n f called is =
 both_of : (a b : Bool) → (a && b) ≡ true → (a ≡ true) × (b ≡ true)
 both_of true b e = (refl, e)
 both_of false b e = absurd (false≢true e)
+
+pub neither_of : (a b : Bool) → (a || b) ≡ false → (a ≡ false) × (b ≡ false)
+neither_of true b e = absurd (true≢false e)
+neither_of false b e = (refl, e)
 
 -- ---- one number after the other
 
@@ -71,7 +76,7 @@ module _ (p : Program) (marks : List ℕ) (m l count first : ℕ) (x : Point p.m
     (claimed_are : (k : ℕ) → has claimed k ≡ unmarked_below (has facts) (has marks) first (64 * MARK_WORDS_PER_LOCATION) k)
     (at_entry_left : IsSiftedAt p marks m l claimed begun (λ O x. IsHadAtEntry O x))
     (after_steps_left : IsSiftedAt p marks m l begun stepped (λ O x. IsHadFrom count O x))
-    (unbroken_left : IsSiftedAt p marks m l stepped kept (λ O x. IsKept O x))
+    (Last : (O : Outline) → Point O.methods → Fact → Type 0) (last_left : IsSiftedAt p marks m l stepped kept Last)
     (forced_are : (k : ℕ) → has forced k ≡ (has facts k && not (has kept k))) where
   called : slice_get p.methods m ≡ Some x.method
   called = ap (slice_get p.methods) (sym of_method) ∙ x.called
@@ -121,11 +126,11 @@ module _ (p : Program) (marks : List ℕ) (m l count first : ℕ) (x : Point p.m
       by_claim false e b i c t = inl (marked_so n f is e)
       by_claim true e false i c t = inr ((at_entry_left x of_method of_location).gone n f is e i)
       by_claim true e true i false t = inr ((after_steps_left x of_method of_location).gone n f is i t)
-      by_claim true e true i true t = inr ((unbroken_left x of_method of_location).gone n f is t away)
+      by_claim true e true i true t = inr ((last_left x of_method of_location).gone n f is t away)
 
   -- what is kept is neither marked nor refuted
   kept_is_stepped : (n : ℕ) → has kept n ≡ true → has stepped n ≡ true
-  kept_is_stepped n e = (unbroken_left x of_method of_location).within n e
+  kept_is_stepped n e = (last_left x of_method of_location).within n e
 
   kept_is_begun : (n : ℕ) → has kept n ≡ true → has begun n ≡ true
   kept_is_begun n e = (after_steps_left x of_method of_location).within n (kept_is_stepped n e)
@@ -139,13 +144,8 @@ module _ (p : Program) (marks : List ℕ) (m l count first : ℕ) (x : Point p.m
       let all : count ≡ length from.method.locations = count_is ∙ ap (λ (o : Option Method). option_map_or location_count o 0) (ap (slice_get p.methods) (sym here) ∙ from.called) in
       omega arith
 
-  not_refuted : (n : ℕ) (f : Fact) → IsNumbered p.header x.method n f → has kept n ≡ true → IsRefuted (outline_of p marks) x f → ⊥
-  not_refuted n f is e (at_entry begins lacks) = lacks ((at_entry_left x of_method of_location).left n f is (kept_is_begun n e) begins)
-  not_refuted n f is e (after from exit leads lacks) =
-      lacks ((after_steps_left x of_method of_location).left n f is (kept_is_stepped n e) from.l (of_count from (sym leads.same_method ∙ of_method)) exit from refl leads)
-  not_refuted n f is e (broken w) = (unbroken_left x of_method of_location).left n f is e (_, refl, w)
-
-  forced_so : (n : ℕ) → has forced n ≡ true → IsForcedAt (outline_of p marks) x n
+  -- what is forced is set already or refuted
+  pub forced_so : (n : ℕ) → has forced n ≡ true → IsForcedAt (outline_of p marks) x n
   forced_so n e =
       let both = and_not (has facts n) (has kept n) (sym (forced_are n) ∙ e) in
       let w = fact_of_number n both.0 in
@@ -156,33 +156,40 @@ module _ (p : Program) (marks : List ℕ) (m l count first : ℕ) (x : Point p.m
       and_not true false e = (refl, refl)
       and_not false b e = absurd (false≢true e)
 
-  so_forced : (n : ℕ) → IsForcedAt (outline_of p marks) x n → has forced n ≡ true
-  so_forced n w = by_kept (has kept n) refl
-    where
-      by_kept : (b : Bool) → has kept n ≡ b → has forced n ≡ true
-      by_kept false e = forced_are n ∙ ap (λ b. has facts n && not b) e ∙ ap (λ b. b && true) (number_of_fact n w.fact w.numbered)
-      by_kept true e =
-          absurd (elim w.forced [
-            | inl set ↦ true≢false (sym set ∙ unmarked_claim n (kept_is_claimed n e))
-            | inr refuted ↦ not_refuted n w.fact w.numbered e refuted
-          ])
+  module _ (unbroken : (f : Fact) → Last (outline_of p marks) x f → IsKept (outline_of p marks) x f) where
+    not_refuted : (n : ℕ) (f : Fact) → IsNumbered p.header x.method n f → has kept n ≡ true → IsRefuted (outline_of p marks) x f → ⊥
+    not_refuted n f is e (at_entry begins lacks) = lacks ((at_entry_left x of_method of_location).left n f is (kept_is_begun n e) begins)
+    not_refuted n f is e (after from exit leads lacks) =
+        lacks ((after_steps_left x of_method of_location).left n f is (kept_is_stepped n e) from.l (of_count from (sym leads.same_method ∙ of_method)) exit from refl leads)
+    not_refuted n f is e (broken w) = unbroken f ((last_left x of_method of_location).left n f is e) (_, refl, w)
 
-  -- the claims of the others are justified
-  pub justified_there : (n : ℕ) (f : Fact) → IsNumbered p.header x.method n f → has forced n ≡ false → IsJustified (outline_of p marks) x f
-  justified_there n f is e =
-      let kept_so : has kept n ≡ true = not_gone (has kept n) (sym (ap (λ b. b && not (has kept n)) (number_of_fact n f is)) ∙ sym (forced_are n) ∙ e) in
-      record {
-        entry = (at_entry_left x of_method of_location).left n f is (kept_is_begun n kept_so);
-        after = λ from exit leads. (after_steps_left x of_method of_location).left n f is (kept_is_stepped n kept_so) from.l (of_count from (sym leads.same_method ∙ of_method)) exit from refl leads;
-        kept = (unbroken_left x of_method of_location).left n f is kept_so;
-      }
-    where
-      not_gone : (b : Bool) → (true && not b) ≡ false → b ≡ true
-      not_gone true t = refl
-      not_gone false t = absurd (true≢false t)
+    so_forced : (n : ℕ) → IsForcedAt (outline_of p marks) x n → has forced n ≡ true
+    so_forced n w = by_kept (has kept n) refl
+      where
+        by_kept : (b : Bool) → has kept n ≡ b → has forced n ≡ true
+        by_kept false e = forced_are n ∙ ap (λ b. has facts n && not b) e ∙ ap (λ b. b && true) (number_of_fact n w.fact w.numbered)
+        by_kept true e =
+            absurd (elim w.forced [
+              | inl set ↦ true≢false (sym set ∙ unmarked_claim n (kept_is_claimed n e))
+              | inr refuted ↦ not_refuted n w.fact w.numbered e refuted
+            ])
 
-  pub forced_there : (n : ℕ) → IsTrue (has forced n) ↔ IsForcedAt (outline_of p marks) x n
-  forced_there n = (forced_so n, so_forced n)
+    -- the claims of the others are justified
+    pub justified_there : (n : ℕ) (f : Fact) → IsNumbered p.header x.method n f → has forced n ≡ false → IsJustified (outline_of p marks) x f
+    justified_there n f is e =
+        let kept_so : has kept n ≡ true = not_gone (has kept n) (sym (ap (λ b. b && not (has kept n)) (number_of_fact n f is)) ∙ sym (forced_are n) ∙ e) in
+        record {
+          entry = (at_entry_left x of_method of_location).left n f is (kept_is_begun n kept_so);
+          after = λ from exit leads. (after_steps_left x of_method of_location).left n f is (kept_is_stepped n kept_so) from.l (of_count from (sym leads.same_method ∙ of_method)) exit from refl leads;
+          kept = unbroken f ((last_left x of_method of_location).left n f is kept_so);
+        }
+      where
+        not_gone : (b : Bool) → (true && not b) ≡ false → b ≡ true
+        not_gone true t = refl
+        not_gone false t = absurd (true≢false t)
+
+    pub forced_there : (n : ℕ) → IsTrue (has forced n) ↔ IsForcedAt (outline_of p marks) x n
+    forced_there n = (forced_so n, so_forced n)
 
 -- ---- the marks that a method forces
 
@@ -191,12 +198,11 @@ module _ (p : Program) (marks : List ℕ) (m : ℕ) where
   none_within found none k = (λ e. absurd (true≢false (sym e ∙ none k)), λ w. let below = w.within in absurd (omega arith))
 
   -- one location more
-  module _ (l first : ℕ) (first_is : first ≡ mark_number p.methods m l 0) (here : IsThere p.methods m l) (forced : List ℕ)
-      (forced_are : (x : Point p.methods) → x.m ≡ m → x.l ≡ l → (n : ℕ) → IsTrue (has forced n) ↔ IsForcedAt (outline_of p marks) x n) where
+  module _ (l first : ℕ) (first_is : first ≡ mark_number p.methods m l 0) (here : IsThere p.methods m l) (forced : List ℕ) (forced_are : AreForcedAt p m l marks forced) where
     mark_from : (n : ℕ) → first + n ≡ mark_number p.methods m l n
     mark_from n = omega arith
 
-    put_so : (k : ℕ) → some_below (is_put (has forced) first k) (64 * MARK_WORDS_PER_LOCATION) ≡ true → IsForcedWithin (outline_of p marks) m (l + 1) k
+    pub put_so : (k : ℕ) → some_below (is_put (has forced) first k) (64 * MARK_WORDS_PER_LOCATION) ≡ true → IsForcedWithin (outline_of p marks) m (l + 1) k
     put_so k e =
         let w = some_found (is_put (has forced) first k) (64 * MARK_WORDS_PER_LOCATION) e in
         let both = both_of (has forced w.0) (k == (first + w.0)) w.2 in
@@ -209,16 +215,21 @@ module _ (p : Program) (marks : List ℕ) (m : ℕ) where
           within = omega arith;
           number = w.0;
           is = is ∙ mark_from w.0 ∙ ap (λ i. mark_number p.methods i l w.0) (sym here.of_method) ∙ ap (λ i. mark_number p.methods x.m i w.0) (sym here.of_location);
-          forced = (forced_are x here.of_method here.of_location w.0).0 both.0;
+          forced = forced_are x here.of_method here.of_location w.0 both.0;
         }
 
-    so_put : (k : ℕ) (w : IsForcedWithin (outline_of p marks) m (l + 1) k) → w.at.l ≡ l → some_below (is_put (has forced) first k) (64 * MARK_WORDS_PER_LOCATION) ≡ true
-    so_put k w last =
-        let n = w.number in
-        let room = fact_has_room p w.at.m w.at.method n w.forced.fact w.at.called w.forced.numbered in
-        let is : k ≡ first + n = w.is ∙ ap (λ i. mark_number p.methods i w.at.l n) w.of_method ∙ ap (λ i. mark_number p.methods m i n) last ∙ sym (mark_from n) in
-        some_there (is_put (has forced) first k) (64 * MARK_WORDS_PER_LOCATION) n room
-        (ap (λ b. b && (k == (first + n))) ((forced_are w.at w.of_method last n).1 w.forced) ∙ eq-eqb k (first + n) is)
+    -- what is not put is not forced
+    pub unput_so : (x : Point p.methods) → x.m ≡ m → x.l ≡ l → (n : ℕ) (f : Fact) → IsNumbered p.header x.method n f
+        → some_below (is_put (has forced) first (mark_number p.methods x.m x.l n)) (64 * MARK_WORDS_PER_LOCATION) ≡ false → has forced n ≡ false
+    unput_so x of_method last n f is none = by_forced (has forced n) refl
+      where
+        by_forced : (b : Bool) → has forced n ≡ b → has forced n ≡ false
+        by_forced false e = e
+        by_forced true e =
+            let k = mark_number p.methods x.m x.l n in
+            let room = fact_has_room p x.m x.method n f x.called is in
+            let same : k ≡ first + n = ap (λ i. mark_number p.methods i x.l n) of_method ∙ ap (λ i. mark_number p.methods m i n) last ∙ sym (mark_from n) in
+            absurd (true≢false (sym (some_there (is_put (has forced) first k) (64 * MARK_WORDS_PER_LOCATION) n room (ap (λ b. b && (k == (first + n))) e ∙ eq-eqb k (first + n) same)) ∙ none))
 
     -- the claims whose marks are not set
     pub justified_more : (old new : List ℕ)
@@ -230,42 +241,38 @@ module _ (p : Program) (marks : List ℕ) (m : ℕ) where
         let k = mark_number p.methods x.m x.l n in
         let neither = neither_of (has old k) (some_below (is_put (has forced) first k) (64 * MARK_WORDS_PER_LOCATION)) (sym (are k) ∙ clear) in
         elim (cases_eq x.l l) [
-          | inl last ↦ justified x of_method last n f is (by_forced x of_method last n f is neither.1 (has forced n) refl)
+          | inl last ↦ justified x of_method last n f is (unput_so x of_method last n f is neither.1)
           | inr other ↦ so x of_method (omega arith) n f is neither.0
         ]
-      where
-        neither_of : (a b : Bool) → (a || b) ≡ false → (a ≡ false) × (b ≡ false)
-        neither_of true b e = absurd (true≢false e)
-        neither_of false b e = (refl, e)
 
-        by_forced : (x : Point p.methods) → x.m ≡ m → x.l ≡ l → (n : ℕ) (f : Fact) → IsNumbered p.header x.method n f
-            → some_below (is_put (has forced) first (mark_number p.methods x.m x.l n)) (64 * MARK_WORDS_PER_LOCATION) ≡ false → (b : Bool) → has forced n ≡ b → has forced n ≡ false
-        by_forced x of_method last n f is none false e = e
-        by_forced x of_method last n f is none true e =
-            let k = mark_number p.methods x.m x.l n in
-            let room = fact_has_room p x.m x.method n f x.called is in
-            let same : k ≡ first + n = ap (λ i. mark_number p.methods i x.l n) of_method ∙ ap (λ i. mark_number p.methods m i n) last ∙ sym (mark_from n) in
-            absurd (true≢false (sym (some_there (is_put (has forced) first k) (64 * MARK_WORDS_PER_LOCATION) n room (ap (λ b. b && (k == (first + n))) e ∙ eq-eqb k (first + n) same)) ∙ none))
+    module _ (so_forced : (x : Point p.methods) → x.m ≡ m → x.l ≡ l → (n : ℕ) → IsForcedAt (outline_of p marks) x n → has forced n ≡ true) where
+      so_put : (k : ℕ) (w : IsForcedWithin (outline_of p marks) m (l + 1) k) → w.at.l ≡ l → some_below (is_put (has forced) first k) (64 * MARK_WORDS_PER_LOCATION) ≡ true
+      so_put k w last =
+          let n = w.number in
+          let room = fact_has_room p w.at.m w.at.method n w.forced.fact w.at.called w.forced.numbered in
+          let is : k ≡ first + n = w.is ∙ ap (λ i. mark_number p.methods i w.at.l n) w.of_method ∙ ap (λ i. mark_number p.methods m i n) last ∙ sym (mark_from n) in
+          some_there (is_put (has forced) first k) (64 * MARK_WORDS_PER_LOCATION) n room
+          (ap (λ b. b && (k == (first + n))) (so_forced w.at w.of_method last n w.forced) ∙ eq-eqb k (first + n) is)
 
-    earlier : (k : ℕ) → IsForcedWithin (outline_of p marks) m l k → IsForcedWithin (outline_of p marks) m (l + 1) k
-    earlier k w = let below = w.within in record { at = w.at; of_method = w.of_method; within = omega arith; number = w.number; is = w.is; forced = w.forced }
+      earlier : (k : ℕ) → IsForcedWithin (outline_of p marks) m l k → IsForcedWithin (outline_of p marks) m (l + 1) k
+      earlier k w = let below = w.within in record { at = w.at; of_method = w.of_method; within = omega arith; number = w.number; is = w.is; forced = w.forced }
 
-    pub within_more : (old new : List ℕ) → ((k : ℕ) → IsTrue (has old k) ↔ IsForcedWithin (outline_of p marks) m l k)
-        → ((k : ℕ) → has new k ≡ (has old k || some_below (is_put (has forced) first k) (64 * MARK_WORDS_PER_LOCATION)))
-        → (k : ℕ) → IsTrue (has new k) ↔ IsForcedWithin (outline_of p marks) m (l + 1) k
-    within_more old new so are k = (
-      λ e. elim (or_cases (has old k) (some_below (is_put (has forced) first k) (64 * MARK_WORDS_PER_LOCATION)) (sym (are k) ∙ e)) [
-        | inl was ↦ earlier k ((so k).0 was)
-        | inr put ↦ put_so k put
-      ],
-      λ w. are k ∙ elim (cases_eq w.at.l l) [
-        | inl last ↦ or_right (has old k) (some_below (is_put (has forced) first k) (64 * MARK_WORDS_PER_LOCATION)) (so_put k w last)
-        | inr other ↦
-            let below = w.within in
-            or_left (has old k) (some_below (is_put (has forced) first k) (64 * MARK_WORDS_PER_LOCATION))
-            ((so k).1 (record { at = w.at; of_method = w.of_method; within = omega arith; number = w.number; is = w.is; forced = w.forced }))
-      ],
-    )
+      pub within_more : (old new : List ℕ) → ((k : ℕ) → IsTrue (has old k) ↔ IsForcedWithin (outline_of p marks) m l k)
+          → ((k : ℕ) → has new k ≡ (has old k || some_below (is_put (has forced) first k) (64 * MARK_WORDS_PER_LOCATION)))
+          → (k : ℕ) → IsTrue (has new k) ↔ IsForcedWithin (outline_of p marks) m (l + 1) k
+      within_more old new so are k = (
+        λ e. elim (or_cases (has old k) (some_below (is_put (has forced) first k) (64 * MARK_WORDS_PER_LOCATION)) (sym (are k) ∙ e)) [
+          | inl was ↦ earlier k ((so k).0 was)
+          | inr put ↦ put_so k put
+        ],
+        λ w. are k ∙ elim (cases_eq w.at.l l) [
+          | inl last ↦ or_right (has old k) (some_below (is_put (has forced) first k) (64 * MARK_WORDS_PER_LOCATION)) (so_put k w last)
+          | inr other ↦
+              let below = w.within in
+              or_left (has old k) (some_below (is_put (has forced) first k) (64 * MARK_WORDS_PER_LOCATION))
+              ((so k).1 (record { at = w.at; of_method = w.of_method; within = omega arith; number = w.number; is = w.is; forced = w.forced }))
+        ],
+      )
 
   -- all locations
   forced_of : (k : ℕ) (w : Forces p.header p.methods m (has marks) k) → (has marks (mark_number p.methods w.at.m w.at.l w.is.number) ≡ true) ⊎ IsRefuted (outline_of p marks) w.at w.fact

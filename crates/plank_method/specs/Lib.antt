@@ -1,3 +1,4 @@
 pub mod Deciding
 pub mod Marks
 pub mod Runs
+pub mod Passes

@@ -7,10 +7,12 @@ mod deciding;
 mod leading;
 mod leasts;
 mod numbers;
+mod passes;
 mod provers;
 mod runs;
+mod stales;
 
 pub use deciding::Deciding;
-pub use leasts::{justify, rounds};
+pub use leasts::{justify, least_marks, rounds};
 pub use provers::Prover;
 pub use runs::run;

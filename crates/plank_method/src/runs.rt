@@ -10,6 +10,7 @@ ghost use Rattle.plank_fact.specs.Forced.{Forces};
 ghost use Rattle.plank_method.specs.Deciding.{outline_of};
 ghost use Rattle.plank_marks.specs.Marks.{mark_words};
 ghost use Rattle.plank_method.specs.Marks.{facts_below};
+ghost use Rattle.plank_method.specs.Passes.{AreForcedAt};
 ghost use Rattle.plank_method.specs.Runs.{IsSiftedAt, IsHadAtEntry, IsHadAfter, IsHadAfterBoth, IsHadFrom, IsKept, IsForcedAt, IsJustified, AreJustified};
 
 use crate::deciding::Deciding;
@@ -24,10 +25,10 @@ use std::alloc::Global;
 
 // The locations of a method, asked at some marks.
 #[derive(Drop)]
-struct Locations<'a, D: Deciding> {
-    deciding: &'a D,
-    marks: &'a MarkWords,
-    method: u32,
+pub(crate) struct Locations<'a, D: Deciding> {
+    pub(crate) deciding: &'a D,
+    pub(crate) marks: &'a MarkWords,
+    pub(crate) method: u32,
 }
 
 impl<'a, D: Deciding> Locations<'a, D> {
@@ -131,7 +132,7 @@ impl<'a, D: Deciding> Locations<'a, D> {
     }
 
     // Those of the facts of the method that are forced at a location, whose marks begin there.
-    fn forced_at(
+    pub(crate) fn forced_at(
         &self,
         alloc: Global,
         location: u32,
@@ -158,6 +159,29 @@ impl<'a, D: Deciding> Locations<'a, D> {
         let stepped = self.after_steps(alloc, count, location, &begun)?;
         let kept = self.unbroken(alloc, location, &stepped)?;
         Ok(facts.minus(&kept))
+    }
+
+    // Those that are forced by where calls begin and by their own steps alone, whatever other calls do.
+    pub(crate) fn forced_by_steps(
+        &self,
+        alloc: Global,
+        location: u32,
+        first: u32,
+        facts: &FactSet,
+    ) -> Result<FactSet, OutOfMemory>
+        requires marks { length self.now.marks.now ≡ mark_words (D.program self.now.deciding.now).methods }
+        requires first { first ≡ mark_number (D.program self.now.deciding.now).methods self.now.method location 0 }
+        requires few { first < 2 ^ 24 }
+        requires room { first + 64 * MARK_WORDS_PER_LOCATION ≤ 64 * length self.now.marks.now }
+        requires facts { (k : ℕ) → has facts.now k ≡ facts_below (D.program self.now.deciding.now).header
+            (D.program self.now.deciding.now).methods self.now.method (64 * MARK_WORDS_PER_LOCATION) k }
+        ensures { IfOk result (λ forced. AreForcedAt (D.program self.now.deciding.now) self.now.method location self.now.marks.now forced) }
+    {
+        let count = location_count(self.deciding.program(), self.method);
+        let claimed = unmarked(facts, first, self.marks);
+        let begun = self.at_entry(alloc, location, &claimed)?;
+        let stepped = self.after_steps(alloc, count, location, &begun)?;
+        Ok(facts.minus(&stepped))
     }
 }
 

@@ -1,10 +1,10 @@
 ghost use Rattle.std.specs.Prelude.{IfOk};
 ghost use Rattle.plank_verdict.specs.Judged.{IsJudged};
 
-use crate::least::least_marks;
 use plank_base::OutOfMemory;
 use plank_decide::Decider;
 use plank_demand::Asking;
+use plank_method::least_marks;
 use plank_prog::Program;
 use plank_solve::Solver;
 use plank_verdict::{Judged, judge_at};

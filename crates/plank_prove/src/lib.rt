@@ -2,7 +2,5 @@
 #![tactic(auto)]
 
 mod judged;
-mod least;
 
 pub use judged::judge;
-pub use least::least_marks;

@@ -1,2 +1,10 @@
 pub mod Pathing
 pub mod Playing
+pub mod Cutting
+pub mod LineTexts
+pub mod Visiting
+pub mod Reaching
+pub mod SameBytes
+pub mod ReadLines
+pub mod Scheduling
+pub mod Overruns

@@ -22,7 +22,7 @@ module _ (f : ℕ → Option ℕ) (met : List NodeId) where
       ap (λ b. if b then met else further n x) e
       ∙ ap (λ o. option_map_or (λ to. path_from f (met ++ x ∷ []) n (record { 0 = to })) o (met ++ x ∷ [])) none
 
-  path_goes : (n k : ℕ) (x to : NodeId) → n ≡ suc k → is_met met x ≡ false → f x.0 ≡ Some to.0 → path_from f met n x ≡ path_from f (met ++ x ∷ []) k to
+  pub path_goes : (n k : ℕ) (x to : NodeId) → n ≡ suc k → is_met met x ≡ false → f x.0 ≡ Some to.0 → path_from f met n x ≡ path_from f (met ++ x ∷ []) k to
   path_goes n k x to same e step =
       ap (λ i. path_from f met i x) same
       ∙ ap (λ b. if b then met else further k x) e

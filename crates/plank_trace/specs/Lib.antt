@@ -4,3 +4,6 @@ pub mod Paths
 pub mod Texts
 pub mod Traces
 pub mod Moves
+pub mod Schedules
+pub mod Cuts
+pub mod Limits

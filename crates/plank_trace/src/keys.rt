@@ -1,5 +1,5 @@
 //! The keys of a schedule.
-ghost use Rattle.std.specs.Prelude.{◌≡◌, ◌≤◌, int_lt, not, false, length, slice_get, IfOk, OnOk};
+ghost use Rattle.std.specs.Prelude.{◌≡◌, ◌≤◌, ◌+◌, int_lt, not, false, length, slice_get, IfOk, OnOk};
 ghost use Rattle.std.specs.Option.{option_map_or};
 ghost use Rattle.std.specs.List.{prefix_len};
 ghost use Rattle.plank_trace.specs.Keys.{with_key, with_key_of, keys_of};
@@ -32,7 +32,8 @@ fn is_at(keys: &[i64], at: usize, key: i64) -> bool
 }
 
 fn add_key(keys: &mut Vec<i64>, key: i64) -> Result<(), OutOfMemory>
-    ensures { OnOk result (keys.new.items ≡ with_key keys.old.items key) }
+    ensures key { OnOk result (keys.new.items ≡ with_key keys.old.items key) }
+    ensures few { OnOk result (length keys.new.items ≤ length keys.old.items + 1) }
 {
     let at = below(keys.as_slice(), key);
     if is_at(keys.as_slice(), at, key) {
@@ -43,7 +44,8 @@ fn add_key(keys: &mut Vec<i64>, key: i64) -> Result<(), OutOfMemory>
 }
 
 fn add_key_of(keys: &mut Vec<i64>, line: &Line) -> Result<(), OutOfMemory>
-    ensures { OnOk result (keys.new.items ≡ with_key_of keys.old.items line.now) }
+    ensures key { OnOk result (keys.new.items ≡ with_key_of keys.old.items line.now) }
+    ensures few { OnOk result (length keys.new.items ≤ length keys.old.items + 1) }
 {
     match line {
         Line::Call { key, .. } => add_key(keys, *key),
@@ -53,7 +55,8 @@ fn add_key_of(keys: &mut Vec<i64>, line: &Line) -> Result<(), OutOfMemory>
 
 /// Each different key of the lines, in rising order.
 pub(crate) fn keys_of(alloc: Global, lines: &[Line]) -> Result<Vec<i64>, OutOfMemory>
-    ensures { IfOk result (λ keys. keys.items ≡ keys_of lines.now) }
+    ensures keys { IfOk result (λ keys. keys.items ≡ keys_of lines.now) }
+    ensures few { IfOk result (λ keys. length keys.items ≤ length lines.now) }
 {
     let mut keys = Vec::new(alloc);
     for line in lines {

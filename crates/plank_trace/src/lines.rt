@@ -7,6 +7,9 @@ use plank_prog::{Method, Program};
 use plank_sem::{Act, Choice};
 use thiserror::Error;
 
+/// How many threads a schedule may name, by the numbers from 0.
+pub const THREADS: u32 = 64;
+
 /// A line of a schedule: which thread moves.
 #[derive(Debug, Drop)]
 pub enum Line {

@@ -1,3 +1,4 @@
+pub mod Passing
 pub mod Sure
 mod Meeting
 mod Putting

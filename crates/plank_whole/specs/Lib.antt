@@ -1,3 +1,4 @@
 pub mod Wholes
 pub mod Judging
 pub mod Stepping
+pub mod Shortcuts

@@ -27,6 +27,9 @@ impl<'a> Picture<'a> {
         requires { first < 255 }
         ensures { result ≡ list_all (meets self.now) (rules_by_third (frame_of self.now) family first second) }
     {
+        if self.passes_by_third(family, first, second) {
+            return true;
+        }
         for third in 0..count(self, shape_of(family).third, first) {
             let rule = Rule {
                 family,
@@ -47,6 +50,9 @@ impl<'a> Picture<'a> {
         requires { first < 255 }
         ensures { result ≡ list_all (meets self.now) (rules_by_second (frame_of self.now) family first) }
     {
+        if self.passes_by_second(family, first) {
+            return true;
+        }
         for second in 0..count(self, shape_of(family).second, first) {
             if !self.meets_by_third(family, first, second) {
                 return false;
@@ -60,6 +66,9 @@ impl<'a> Picture<'a> {
     fn meets_family(&self, family: Family) -> bool
         ensures { result ≡ list_all (meets self.now) (rules_of (frame_of self.now) family) }
     {
+        if self.passes_by_rank(family) {
+            return true;
+        }
         for first in 0..count(self, shape_of(family).first, 0) {
             if !self.meets_by_second(family, first) {
                 return false;

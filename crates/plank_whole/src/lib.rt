@@ -3,6 +3,7 @@
 
 mod answers;
 mod judging;
+mod shortcuts;
 mod stepping;
 mod wholes;
 

@@ -15,7 +15,7 @@ use plank_walk::Reader;
 pub struct Picture<'a> {
     /// The structure, the names and the root.
     pub shape: Shape<'a>,
-    said: [bool; CODES],
+    pub(crate) said: [bool; CODES],
 }
 
 impl<'a> Picture<'a> {

@@ -2,7 +2,8 @@
 use Rattle.std.proofs.Common.{◌≡◌, length, rules}
 use Rattle.std.proofs.lemmas.List.Elements.{All-same}
 use Rattle.plank_crew.specs.declared.desks.Desk.{Desk}
-use Rattle.plank_crew.specs.Desks.{IsSeatOfOne, HasLeft}
+use Rattle.plank_board.specs.Seats.{IsSeatOfOne}
+use Rattle.plank_crew.specs.Desks.{HasLeft}
 use Rattle.plank_crew.proofs.Joining.{written_front}
 use Rattle.plank_crew.proofs.crews.crew_named.Goals as goal
 

@@ -4,7 +4,8 @@ use Rattle.std.specs.Option.{IfSome}
 use Rattle.std.proofs.lemmas.Bool.{false≢true}
 use Rattle.std.proofs.lemmas.List.Elements.{All-pop}
 use Rattle.plank_crew.specs.declared.desks.Desk.{Desk}
-use Rattle.plank_crew.specs.Desks.{IsSeatOfOne, HasLeft}
+use Rattle.plank_board.specs.Seats.{IsSeatOfOne}
+use Rattle.plank_crew.specs.Desks.{HasLeft}
 use Rattle.plank_crew.proofs.Joining.{parts_joined, left_joined}
 use Rattle.plank_crew.proofs.desks.join_desks.Goals as goal
 

@@ -1,6 +1,7 @@
 -- The seats so far are joined.
 use Rattle.std.proofs.Common.{◌≡◌, ◌+◌, All, vec_len}
-use Rattle.plank_crew.specs.Desks.{IsSeatOfOne, HasLeft}
+use Rattle.plank_board.specs.Seats.{IsSeatOfOne}
+use Rattle.plank_crew.specs.Desks.{HasLeft}
 use Rattle.plank_crew.proofs.desks.join_desks.Given as goal
 
 abbrev pub invariant-loop-desk : goal.invariant-loop-desk

@@ -3,7 +3,7 @@ use Rattle.std.proofs.Common.{◌≡◌, ◌-◌, ◌∙◌, false, [], ◌∷�
 use Rattle.std.proofs.lemmas.List.Elements.{All-push, All-same}
 use Rattle.plank_board.specs.declared.views.View.{View}
 use Rattle.plank_crew.specs.declared.desks.Desk.{Desk}
-use Rattle.plank_crew.specs.Desks.{IsSeatOfOne}
+use Rattle.plank_board.specs.Seats.{IsSeatOfOne}
 use Rattle.plank_crew.proofs.desks.make_desks.Goals as goal
 
 pub loop-worker-preserved : goal.loop-worker-preserved

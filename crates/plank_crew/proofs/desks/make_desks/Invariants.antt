@@ -1,6 +1,6 @@
 -- The desks so far have a part each, and the seat has the others.
 use Rattle.std.proofs.Common.{◌≡◌, ◌+◌, All, vec_len}
-use Rattle.plank_crew.specs.Desks.{IsSeatOfOne}
+use Rattle.plank_board.specs.Seats.{IsSeatOfOne}
 use Rattle.plank_crew.proofs.desks.make_desks.Given as goal
 
 abbrev pub invariant-loop-worker : goal.invariant-loop-worker

@@ -52,9 +52,9 @@ loop-location-preserved g c =
     record {
       same_length = c.put.ensures.length ∙ c.loop-location.invariant.same_length;
       forced = within_more p c.args.marks.now m l ((c.locations_before-before.result + l) * 1024) first (point_at p.methods m l c.requires.method (subst (λ n. l < n) count c.loop-location-test.true))
-          c.in_ok-forced.forced c.in_ok-forced.ensures.forced c.loop-location.found c.put.new.marks c.loop-location.invariant.forced c.put.ensures.marks;
+          c.in_ok-forced.forced (λ x a b n. (c.in_ok-forced.ensures.forced x a b n).0) (λ x a b n. (c.in_ok-forced.ensures.forced x a b n).1) c.loop-location.found c.put.new.marks c.loop-location.invariant.forced c.put.ensures.marks;
       justified = justified_more p c.args.marks.now m l ((c.locations_before-before.result + l) * 1024) first (point_at p.methods m l c.requires.method (subst (λ n. l < n) count c.loop-location-test.true))
-          c.in_ok-forced.forced c.in_ok-forced.ensures.forced c.loop-location.found c.put.new.marks c.in_ok-forced.ensures.justified c.loop-location.invariant.justified c.put.ensures.marks;
+          c.in_ok-forced.forced (λ x a b n. (c.in_ok-forced.ensures.forced x a b n).0) c.loop-location.found c.put.new.marks c.in_ok-forced.ensures.justified c.loop-location.invariant.justified c.put.ensures.marks;
     }
 
 pub returns-clause-found : goal.returns-clause-found

@@ -38,7 +38,7 @@ loop-i-preserved c =
     let at : slice_get c.args.lines.now c.loop-i.i ≡ Some line = slice_get-get_or c.args.lines.now c.loop-i.i line c.loop-i-test.true ∙ ap (λ (x : Line). Some x) (sym c.index-lines-i.is) in
     let moved = subst (λ (m : Moved). IsMoved p.header p.methods c.as_slice.result.now (c.loop-i.i + 1) line m c.loop-i.play c.make.new.play) c.in-Ok-On.field-0-is c.in-Ok-On.ensures.moved in
     record {
-      plays = play_on p.header p.methods c.args.lines.now (c.loop-i.i + 1) c.loop-i.i (c.loop-i.i + 1) c.loop-i.play.world _ c.loop-i.play.out.items _ c.as_slice.result.now c.loop-i.invariant.plays line at moved.0 moved.1 (omega arith) (omega arith) (c.as_slice.ensures.value ∙ c.in-Ok.ensures) moved.2;
+      plays = play_on p.header p.methods c.args.lines.now (c.loop-i.i + 1) c.loop-i.i (c.loop-i.i + 1) c.loop-i.play.world _ c.loop-i.play.out.items _ c.as_slice.result.now c.loop-i.invariant.plays line at moved.0 moved.1 (omega arith) (omega arith) (c.as_slice.ensures.value ∙ c.in-Ok.ensures.keys) moved.2;
       fits = c.make.ensures.fits;
     }
 

@@ -1,0 +1,9 @@
+-- A cell that does not say no.
+use Rattle.std.proofs.Common.{sym, ◌∙◌, arith}
+use Rattle.plank_lawful.proofs.Asked.{one_fails}
+use Rattle.plank_whole.specs.Shortcuts.{is_unsaid}
+use Rattle.plank_whole.proofs.wholes.Picture.are_unsaid.Goals as goal
+
+pub returns-then-not-is_unsaid : goal.returns-then-not-is_unsaid
+returns-then-not-is_unsaid c =
+    sym (one_fails (is_unsaid c.args.self.now.said c.args.base) 512 c.loop-step.step (omega arith) (sym c.is_unsaid.ensures ∙ c.if-not-is_unsaid.true))
