@@ -1,5 +1,5 @@
 -- Where nothing follows from all together, nothing follows from any past fact with what is true.
-use Rattle.std.specs.Prelude.{◌≡◌, ◌⊎◌, ℕ, ◌+◌, ◌*◌, ◌<◌, ◌==◌, Bool, true, false, not, ◌&&◌, ◌++◌, ◌∷◌, [], List, slice_get, Option, Some, None, Contains}
+use Rattle.std.specs.Prelude.{◌≡◌, ℕ, ◌+◌, ◌*◌, ◌<◌, ◌==◌, Bool, true, not, ◌++◌, ◌∷◌, [], List, Option, Some, None, Contains}
 use Rattle.std.specs.Option.{option_map_or}
 use Rattle.std.proofs.Common.{refl, sym, ◌∙◌, ap, subst, inl, inr, arith}
 use Rattle.std.proofs.lemmas.Bool.{cases_eq, and_parts, and_from, eqb-true}
@@ -15,16 +15,15 @@ use Rattle.plank_pic.specs.declared.parts.Part.{Part}
 use Rattle.plank_pic.specs.declared.literals.Literal.{Literal}
 use Rattle.plank_pic.specs.Pictures.{Picture}
 use Rattle.plank_pic.specs.Truths.{Caller, truth}
-use Rattle.plank_pic.specs.Below.{some_below}
 use Rattle.plank_pic.proofs.Below.{some_found}
 use Rattle.plank_fact.specs.declared.facts.Fact.{Fact}
 use Rattle.plank_fact.specs.Literals.{past_name}
 use Rattle.plank_fact.specs.Tables.{fact_at, IsNumbered}
 use Rattle.plank_fact.specs.Outlines.{Outline}
 use Rattle.plank_fact.specs.OwnSteps.{own_call}
-use Rattle.plank_fact.specs.Hindsight.{is_node_shared, is_witnessed, AllTrue, IsHindsight}
+use Rattle.plank_fact.specs.Hindsight.{is_node_shared, is_witnessed, AllTrue}
 use Rattle.plank_follow.specs.Kinds.{is_of_kind, is_kind_at, kind_below}
-use Rattle.plank_follow.specs.Following.{IsGiven, IsFollowing, IsFollowingFrom, AddsPast}
+use Rattle.plank_follow.specs.Following.{IsGiven, IsFollowing, AddsPast}
 use Rattle.plank_follow.specs.Together.{AreAmong, IsWitnessedIn, AreTogether, AreUsed}
 
 -- ---- lists that grow

@@ -1,6 +1,6 @@
 -- The pictures after the steps of a location are those in which calls arrive, of which the claims of the location are right.
 use Rattle.std.specs.Prelude.{◌≡◌, ℕ, Bool, true, List, [], length, slice_get, Some}
-use Rattle.std.proofs.Common.{refl, sym, ◌∙◌, ap, ap₂, subst, inl, inr}
+use Rattle.std.proofs.Common.{refl, sym, ◌∙◌, ap, subst, inl, inr}
 use Rattle.std.proofs.lemmas.Option.{same_Some}
 use Rattle.plank_bits.specs.Words.{has}
 use Rattle.plank_prog.specs.declared.headers.Header.{Header}
@@ -11,7 +11,7 @@ use Rattle.plank_pic.specs.declared.literals.Exit.{Exit}
 use Rattle.plank_pic.specs.Pictures.{Picture}
 use Rattle.plank_pic.specs.Truths.{truth}
 use Rattle.plank_fact.specs.declared.facts.Fact.{Fact}
-use Rattle.plank_fact.specs.Tables.{IsNumbered, IsFactOf}
+use Rattle.plank_fact.specs.Tables.{IsFactOf}
 use Rattle.plank_fact.specs.Outlines.{Outline, Point}
 use Rattle.plank_fact.specs.OwnSteps.{turn_at, IsOwnStep}
 use Rattle.plank_fact.specs.After.{IsAlwaysLasting, IsOncePast, seen, carried, hindsight, IsPictureAfter, IsCarried, IsAfter}

@@ -1,5 +1,5 @@
 use Rattle.std.proofs.Common.{◌*◌, List, true, refl, sym, ◌∙◌, subst}
-use Rattle.std.proofs.lemmas.Bool.{and_parts, false≢true}
+use Rattle.std.proofs.lemmas.Bool.{and_parts}
 use Rattle.plank_base.specs.declared.limits.TheConstants.{MARK_WORDS_PER_LOCATION}
 use Rattle.plank_bits.specs.Words.{has}
 use Rattle.plank_pic.specs.declared.literals.Literal.{Literal}

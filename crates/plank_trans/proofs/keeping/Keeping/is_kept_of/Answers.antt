@@ -1,4 +1,4 @@
-use Rattle.std.proofs.Common.{◌<◌, sym, ◌∙◌, ap, subst}
+use Rattle.std.proofs.Common.{◌<◌, subst}
 use Rattle.std.specs.Prelude.{◌≡◌}
 use Rattle.plank_pic.specs.Steps.{Of}
 use Rattle.plank_pic.specs.Blocks.{source}
