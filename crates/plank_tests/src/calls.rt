@@ -25,7 +25,7 @@ pub(crate) struct Outside<'a> {
     ghost writes: { 1 ≤ write_most },
 }
 
-const PLAIN: Outside<'static> = Outside {
+pub(crate) const PLAIN: Outside<'static> = Outside {
     read_most: 4096,
     read_fails: &[],
     write_most: 4096,

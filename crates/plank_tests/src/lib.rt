@@ -16,6 +16,8 @@ mod structures;
 #[cfg(test)]
 mod tokens;
 #[cfg(test)]
+mod traces;
+#[cfg(test)]
 mod typing;
 #[cfg(test)]
 mod verdicts;

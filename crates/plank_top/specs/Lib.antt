@@ -4,6 +4,7 @@ pub mod Trees
 pub mod Answers
 pub mod Replies
 pub mod Words
+pub mod Traced
 pub mod Commands
 pub mod Endings
 pub mod Soundness

@@ -11,6 +11,7 @@ ghost use Rattle.plank_top.specs.Soundness.{IsSound, IsGiven};
 
 use crate::replies::{Reply, Telling, judge_bytes, print, refuse};
 use crate::status::Status;
+use crate::traced::trace;
 use crate::words::{Command, command_of};
 use plank_base::{BYTES_LIMIT, OutOfMemory, Thing};
 use plank_io::{Gate, Reading, Sink, Source, Written, read_up_to, write_all};
@@ -46,6 +47,7 @@ fn reply_to(alloc: Global, command: Command, text: &[u8]) -> Result<Reply, OutOf
         Command::Verify => judge_bytes(alloc, text, Telling::Whole),
         Command::Effects => judge_bytes(alloc, text, Telling::WithoutVerdict),
         Command::Print => print(alloc, text),
+        Command::Trace => trace(alloc, text),
     }
 }
 

@@ -5,6 +5,7 @@ mod entry;
 mod printing;
 mod replies;
 mod status;
+mod traced;
 mod trees;
 mod words;
 

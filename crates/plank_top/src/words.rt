@@ -16,6 +16,8 @@ pub enum Command {
     Effects,
     /// Writes the text of the source in canonical form.
     Print,
+    /// Runs the schedule of the source on the text behind it.
+    Trace,
 }
 
 /// The command that the words name. The program's own name is not among them.
@@ -27,6 +29,7 @@ pub fn command_of(words: &[String]) -> Option<Command>
         [word] if word.as_str() == "verify" => Some(Command::Verify),
         [word] if word.as_str() == "effects" => Some(Command::Effects),
         [word] if word.as_str() == "print" => Some(Command::Print),
+        [word] if word.as_str() == "trace" => Some(Command::Trace),
         _ => None,
     }
 }

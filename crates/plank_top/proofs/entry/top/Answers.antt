@@ -1,7 +1,7 @@
 use Rattle.std.proofs.Common.{◌≡◌, sym, ◌∙◌}
 use Rattle.plank_top.specs.declared.status.Status.{Status}
 use Rattle.plank_top.specs.declared.words.Command.{Command}
-use Rattle.plank_top.specs.declared.words.Command.TheVariants.{Verify, Effects, Print}
+use Rattle.plank_top.specs.declared.words.Command.TheVariants.{Verify, Effects, Print, Trace}
 use Rattle.plank_top.specs.Words.{words_of}
 use Rattle.plank_top.specs.Endings.{Told, Serves}
 use Rattle.plank_top.proofs.Accepting.{accepted_is_sound}
@@ -19,6 +19,13 @@ same_command Effects Verify source sink ended same serves = absurd (cc same)
 same_command Effects Print source sink ended same serves = absurd (cc same)
 same_command Print Verify source sink ended same serves = absurd (cc same)
 same_command Print Effects source sink ended same serves = absurd (cc same)
+same_command Trace Trace source sink ended same serves = serves
+same_command Verify Trace source sink ended same serves = absurd (cc same)
+same_command Trace Verify source sink ended same serves = absurd (cc same)
+same_command Effects Trace source sink ended same serves = absurd (cc same)
+same_command Trace Effects source sink ended same serves = absurd (cc same)
+same_command Print Trace source sink ended same serves = absurd (cc same)
+same_command Trace Print source sink ended same serves = absurd (cc same)
 
 pub returns-in-Some-clause-served : goal.returns-in-Some-clause-served
 returns-in-Some-clause-served g c command are =

@@ -24,3 +24,8 @@ pub returns-in-len1-3-clause-named : goal.returns-in-len1-3-clause-named
 returns-in-len1-3-clause-named c =
     only_element string_bytes c.args.words.now c.word-item-then-words-lt2-2.result (codes "print") (omega arith) (omega arith) c.word-item-then-words-lt2-2.is
     (sym c.as_str-then-words-lt2-2.ensures.value ∙ (bytes_eq-Decides c.as_str-then-words-lt2-2.result.now (codes "print")).0 (sym c.eq-then-words-lt2-2.ensures ∙ c.if-eq-3.true))
+
+pub returns-in-len1-4-clause-named : goal.returns-in-len1-4-clause-named
+returns-in-len1-4-clause-named c =
+    only_element string_bytes c.args.words.now c.word-item-then-words-lt2-3.result (codes "trace") (omega arith) (omega arith) c.word-item-then-words-lt2-3.is
+    (sym c.as_str-then-words-lt2-3.ensures.value ∙ (bytes_eq-Decides c.as_str-then-words-lt2-3.result.now (codes "trace")).0 (sym c.eq-then-words-lt2-3.ensures ∙ c.if-eq-4.true))
