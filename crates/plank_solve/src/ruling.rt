@@ -7,6 +7,7 @@ use crate::asks::Ask;
 use crate::views::Views;
 use plank_close::close;
 use plank_parts::{Numbering, Side, look_of};
+use plank_pic::Part;
 use plank_query::Situation;
 use plank_search::{Look, Reads, Rules, Values};
 
@@ -18,6 +19,8 @@ pub struct Ruling<'r, 'q> {
     pub asks: &'r [Ask],
     /// Whether there are two pictures. A hint.
     pub is_step: bool,
+    /// Whether each name is the same node's in both. A hint.
+    pub keeps_names: bool,
     pub ghost few: { numbering.now.frame.names ≤ 16 },
     pub ghost names: { numbering.now.frame.names ≡ names situation },
     pub ghost root: { numbering.now.frame.root ≡ root situation },
@@ -38,12 +41,59 @@ impl<'r, 'q> Ruling<'r, 'q> {
         self.asks[number]
     }
 
+    // Whether what follows from a part in the picture before is all that does in the picture after:
+    // where each name stays what it was, and the part is kept and speaks of no part that is not.
+    fn is_closed_once(&self, number: usize) -> bool {
+        match self.numbering.at(number) {
+            Some(of) => {
+                self.keeps_names && is_apart(of.part) && !self.numbering.is_moved(of.part)
+            }
+            None => true,
+        }
+    }
+
     // Puts what follows in the picture of a side.
     fn close_side(&self, side: Side, part: usize, values: &mut Values, reads: &mut Reads) -> bool
         ensures { Propagates (MeetsRules (ruled self.now) (length self.now.asks.now)) values.old values.new result }
     {
         close(self.numbering, side, part, values, reads)
     }
+}
+
+// Whether what follows from a part by closures is of parts of its kind, which a step keeps with it.
+fn is_apart(part: Part) -> bool {
+    match part {
+        Part::AtMost { .. }
+        | Part::Flag { .. }
+        | Part::Shared { .. }
+        | Part::Mine { .. }
+        | Part::Locked { .. }
+        | Part::LockMine { .. }
+        | Part::LockOthers { .. }
+        | Part::Visits { .. }
+        | Part::Chain { .. }
+        | Part::Picks { .. }
+        | Part::InSet { .. }
+        | Part::Spent
+        | Part::StopFlag { .. }
+        | Part::StopVisited { .. } => true,
+        Part::Null { .. }
+        | Part::Same { .. }
+        | Part::PointerNull { .. }
+        | Part::Leads { .. }
+        | Part::Beyond { .. }
+        | Part::SameBeyond { .. } => false,
+    }
+}
+
+/// Whether each name is the same node's in both pictures, as far as the parts that are kept tell.
+pub(crate) fn keeps_names(numbering: &Numbering<'_>) -> bool {
+    for name in 0..numbering.shape().names {
+        if numbering.is_moved(Part::Null { name }) {
+            return false;
+        }
+    }
+    true
 }
 
 impl<'r, 'q> Rules for Ruling<'r, 'q> {
@@ -74,8 +124,17 @@ impl<'r, 'q> Rules for Ruling<'r, 'q> {
         }
     }
 
+    fn outcome(&self, constraint: usize) -> Option<usize> {
+        match self.asks.get(constraint)? {
+            Ask::Left(part) => Some(self.numbering.number(Side::After, *part)),
+            _ => None,
+        }
+    }
+
     fn apply(&self, part: usize, values: &mut Values, reads: &mut Reads) -> bool {
         self.close_side(Side::Before, part, values, reads)
-            && (!self.is_step || self.close_side(Side::After, part, values, reads))
+            && (!self.is_step
+                || self.is_closed_once(part)
+                || self.close_side(Side::After, part, values, reads))
     }
 }

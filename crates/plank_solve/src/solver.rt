@@ -6,7 +6,7 @@ ghost use Rattle.plank_solve.specs.Rulings.{IsRulingOf, IsMore, NoMore};
 
 use crate::asks::{Ask, asks_of};
 use crate::found::{open_numbers, values_of};
-use crate::ruling::Ruling;
+use crate::ruling::{Ruling, keeps_names};
 use crate::views::Views;
 use plank_base::OutOfMemory;
 use plank_parts::{Numbering, Shape};
@@ -130,6 +130,7 @@ impl Oracle for Solver {
             situation: question.situation,
             asks: asks.as_slice(),
             is_step: keeping.step.is_some(),
+            keeps_names: keeps_names(&numbering),
         };
         answers(alloc, &ruling, question)
     }
