@@ -1,6 +1,6 @@
 -- Lists of effects: one more, and all of a method.
-use Rattle.std.specs.Prelude.{◌≡◌, ◌↔◌, ℕ, ◌+◌, Bool, true, false, List, [], ◌∷◌, ◌++◌}
-use Rattle.std.proofs.Common.{refl, sym, ◌∙◌, ap, subst}
+use Rattle.std.specs.Prelude.{◌≡◌, ℕ, ◌+◌, List, [], ◌∷◌, ◌++◌}
+use Rattle.std.proofs.Common.{sym, ◌∙◌, ap, subst}
 use Rattle.plank_prog.specs.declared.programs.Program.{Program}
 use Rattle.plank_fact.specs.declared.facts.Fact.{Fact}
 use Rattle.plank_judge.specs.Verdicts.{outline_of}

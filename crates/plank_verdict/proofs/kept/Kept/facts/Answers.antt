@@ -1,5 +1,5 @@
 use Rattle.std.specs.Prelude.{ℕ, Bool}
-use Rattle.std.proofs.Common.{◌≡◌, ◌+◌, ◌*◌, ◌≤◌, ◌++◌, sym, ◌∙◌, ap, arith, length}
+use Rattle.std.proofs.Common.{◌+◌, ◌*◌, ◌≤◌, ◌++◌, sym, ◌∙◌, ap, arith, length}
 use Rattle.plank_base.specs.declared.limits.TheConstants.{MARK_WORDS_PER_LOCATION}
 use Rattle.plank_bits.specs.Words.{has}
 use Rattle.plank_fact.specs.ReportedEffects.{kept_from}
