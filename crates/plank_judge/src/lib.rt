@@ -3,9 +3,11 @@
 #![tactic(auto)]
 
 mod demands;
+mod effects;
 mod listing;
 mod verdicts;
 
 pub use demands::Demands;
+pub use effects::Effect;
 pub use listing::obligations;
 pub use verdicts::{Verdict, holds, judge};

@@ -44,7 +44,7 @@ pub(crate) fn called(
         owned.push(String::from_str(alloc, word)?)?;
     }
     let mut source = MemSource::new(alloc, text, outside.read_most, outside.read_fails)?;
-    let mut sink = MemSink::new(alloc, 8_192, outside.write_most, outside.write_fails)?;
+    let mut sink = MemSink::new(alloc, 32_768, outside.write_most, outside.write_fails)?;
     let status = top(&(), alloc, &owned, &mut source, &mut sink, &OpenGate);
     let taken = Vec::from_slice(alloc, sink.taken())?;
     Ok((status, taken))
@@ -59,6 +59,18 @@ pub(crate) fn writes(
 ) -> Result<bool, OutOfMemory> {
     let (_, taken) = called(alloc, words, text, &PLAIN)?;
     Ok(taken.as_slice() == output)
+}
+
+/// Whether the report on the text begins so and ends so.
+pub(crate) fn reports(
+    alloc: Global,
+    text: &[u8],
+    first: &[u8],
+    last: &[u8],
+) -> Result<bool, OutOfMemory> {
+    let (_, taken) = called(alloc, &["verify"], text, &PLAIN)?;
+    let report = taken.as_slice();
+    Ok(report.starts_with(first) && report.ends_with(last))
 }
 
 /// Whether the call answers this status and writes this.

@@ -33,7 +33,7 @@ fn an_answer_without_cause_is_rejected_at_its_return(rt: HostRuntime) {
 
 #[test]
 fn words_that_name_no_command_are_refused(rt: HostRuntime) {
-    let cases: [&[&str]; 3] = [&[], &["prove"], &["verify", "x"]];
+    let cases: [&[&str]; 4] = [&[], &["prove"], &["verify", "x"], &["effects", "effects"]];
     for words in cases {
         let output = b"usage fault\n";
         assert!(rt; answers(rt.alloc(), words, ONE, Status::Usage, output) == Ok(true));
@@ -78,6 +78,13 @@ fn a_source_that_fails_is_a_read_fault_and_nothing_is_written(rt: HostRuntime) {
     assert!(rt; taken.is_empty());
 }
 
+/// What is taken of each command's output where the sink fails at its third call.
+const CUT: [(&str, &[u8]); 3] = [
+    ("verify", b"structure one\neffect"),
+    ("effects", b"structure one\neffect"),
+    ("print", b"structure one;\nroot "),
+];
+
 #[test]
 fn a_sink_that_fails_is_a_write_fault_and_keeps_what_it_took(rt: HostRuntime) {
     let outside = Outside {
@@ -86,7 +93,9 @@ fn a_sink_that_fails_is_a_write_fault_and_keeps_what_it_took(rt: HostRuntime) {
         write_most: 10,
         write_fails: &[3],
     };
-    let (status, taken) = called(rt.alloc(), &["verify"], ONE, &outside).expect(&rt, "memory");
-    assert_eq!(rt; status, Status::WriteFault);
-    assert!(rt; taken.as_slice() == b"structure one\neffect".as_slice());
+    for (command, cut) in CUT {
+        let (status, taken) = called(rt.alloc(), &[command], ONE, &outside).expect(&rt, "memory");
+        assert_eq!(rt; status, Status::WriteFault);
+        assert!(rt; taken.as_slice() == cut);
+    }
 }

@@ -1,5 +1,6 @@
 //! Verdicts on whole structures: lists and trees after published ones, and texts with a fault.
-use crate::calls::{ENDS, writes};
+use crate::calls::{ENDS, answers, reports, writes};
+use plank_top::Status;
 
 /// A sorted list whose upkeep unlinks the first marked node on its way.
 pub(crate) const SWEEP: &[u8] =
@@ -45,18 +46,67 @@ fn a_read_of_null_is_rejected(rt: HostRuntime) {
 
 #[test]
 fn a_lost_insert_is_rejected(rt: HostRuntime) {
-    let output = b"structure lost\neffects 2\nrejected footprint in insert at 20:5\n";
+    let output =
+        b"structure lost\neffects 2\neffect 1 insert 19:5\n  write n.next = c;\n  c != n\n  c != null\n  n != null\n  n.key < c.key\n  n.key <= c.key\n  n.key <= k\n  k < c.key\n  k <= c.key\n  k <= n.key\n  MIN < c.key\n  MIN < n.key\n  n.key < MAX\n  n.next == null\n  n owned\n  c shared\neffect 2 insert 20:5\n  write p.next = n;\n  p != n\n  p != null\n  n != null\n  p.key < n.key\n  p.key <= n.key\n  p.key < k\n  p.key <= k\n  n.key <= k\n  k <= n.key\n  MIN < n.key\n  p.key < MAX\n  n.key < MAX\n  n owned\n  p shared\nrejected footprint in insert at 20:5\n";
     assert!(rt; writes(rt.alloc(), &["verify"], LOST, output) == Ok(true));
 }
 
 #[test]
 fn an_upkeep_that_changes_the_set_is_rejected(rt: HostRuntime) {
-    let output = b"structure lamp\neffects 1\nrejected change in light at 6:29\n";
+    let output =
+        b"structure lamp\neffects 1\neffect 1 light 6:29\n  write root.up = true;\n  root != null\n  root.key < k\n  root.key <= k\n  root.key == MIN\n  root.key < MAX\n  root shared\n  k in root\nrejected change in light at 6:29\n";
     assert!(rt; writes(rt.alloc(), &["verify"], LAMP, output) == Ok(true));
 }
 
 #[test]
+fn effects_are_told_without_the_verdict(rt: HostRuntime) {
+    let output =
+        b"structure lamp\neffects 1\neffect 1 light 6:29\n  write root.up = true;\n  root != null\n  root.key < k\n  root.key <= k\n  root.key == MIN\n  root.key < MAX\n  root shared\n  k in root\n";
+    assert!(rt; answers(rt.alloc(), &["effects"], LAMP, Status::Done, output) == Ok(true));
+}
+
+#[test]
+fn a_list_that_is_only_read_has_no_effects(rt: HostRuntime) {
+    let output = b"structure ends\neffects 0\n";
+    assert!(rt; answers(rt.alloc(), &["effects"], ENDS, Status::Done, output) == Ok(true));
+}
+
+#[test]
 fn a_node_that_is_forgotten_as_it_is_unlinked_is_looked_at(rt: HostRuntime) {
-    let output = b"structure slot\neffects 10\nrejected keep in remove at 38:7\n";
-    assert!(rt; writes(rt.alloc(), &["verify"], STALE_SLOT, output) == Ok(true));
+    let last = b"\nrejected keep in remove at 38:7\n";
+    assert!(rt;
+        reports(
+            rt.alloc(),
+            STALE_SLOT,
+            b"structure slot\neffects 10\n",
+            last
+        ) == Ok(true)
+    );
+}
+
+/// Blocks that stand first in a method, and how the report on each begins and ends: each form of a test, a bind and
+/// a write, and the statements on locks.
+const STEPS: [(&[u8], &[u8], &[u8]); 3] = [
+    (
+        b"structure forms;\nflag a;\nflag b;\nptr next free;\nptr back free;\nlock;\nroot r;\nstart r { key = MIN; }\nholds false;\nmethod contains(k) {\n  var p, c, n;\n  atomic {\n    with c; test root.a; test !root.b; test root.a == p.b; test root.a != p.b;\n    test p.key == k; test MIN != p.key; test p.key < root.key; test k <= MAX;\n    test p == c; test c != null; test root.next == p; test null != root.back;\n    n = root.next; write root.a = true; write root.b = false; write root.next = null; write root.back = p;\n  }\n  return false;\n}\n",
+        b"structure forms\neffects 1\neffect 1 contains 12:3\n  test root.a;\n  test !root.b;\n  test root.a == p.b;\n  test root.a != p.b;\n  test p.key == k;\n  test MIN != p.key;\n  test p.key < root.key;\n  test k <= MAX;\n  test p == c;\n  test c != null;\n  test root.next == p;\n  test null != root.back;\n  n = root.next;\n  write root.a = true;\n  write root.b = false;\n  write root.next = null;\n  write root.back = p;\n  p == c\n",
+        b"\nrejected null in contains at 12:3\n",
+    ),
+    (
+        b"structure one;\nlock;\nroot a;\nstart a { key = MIN; }\nholds false;\nmethod contains(k) {\n  lock root;\n  return false;\n}\n",
+        b"structure one\neffects 1\neffect 1 contains 7:3\n  lock root;\n  root != null\n",
+        b"\naccepted\n",
+    ),
+    (
+        b"structure one;\nlock;\nroot a;\nstart a { key = MIN; }\nholds false;\nmethod contains(k) {\n  unlock root;\n  return false;\n}\n",
+        b"structure one\neffects 1\neffect 1 contains 7:3\n  unlock root;\n  root != null\n",
+        b"\naccepted\n",
+    ),
+];
+
+#[test]
+fn steps_are_told_as_their_statements_stand(rt: HostRuntime) {
+    for (text, first, last) in STEPS {
+        assert!(rt; reports(rt.alloc(), text, first, last) == Ok(true));
+    }
 }

@@ -1,5 +1,5 @@
 //! Texts that break rules of typing: a case for each rule, and for each kind of statement at its places.
-use crate::calls::writes;
+use crate::calls::{reports, writes};
 use plank_base::OutOfMemory;
 use std::alloc::Global;
 
@@ -638,16 +638,11 @@ fn statements_with_locks_break_their_rules(rt: HostRuntime) {
 }
 
 /// Texts that break no rule, and what is said of them.
-const WELL_TYPED: [Case; 8] = [
+const WELL_TYPED: [Case; 7] = [
     // a plain text
     (
         b"structure s;\nroot h; start h { key = MIN; }\nholds false;\nmethod contains(k) { return false; }\n",
         b"structure s\neffects 0\naccepted\n",
-    ),
-    // all kinds of statements
-    (
-        b"structure s; flag gone; ptr next asc; lock; root h;\nstart h { key = MIN; }\nholds true;\nmethod contains(k) { var p, c, n;\nlock p; unlock root; loop { p = new; c = null; n = root; p = n; c = n.next; while (p.gone && p.key < k) { continue; } atomic { with c; test p.next == c; test !root.gone; n = root.next; write p.next = c; write p.gone = true; } else { break; } if (p == c) { return true; } else { continue; } } return false;\n}\n",
-        b"structure s\neffects 1\nrejected start\n",
     ),
     // names of fields, start nodes and variables may agree
     (
@@ -686,4 +681,12 @@ fn texts_that_break_no_rule_are_typed(rt: HostRuntime) {
     for (text, output) in WELL_TYPED {
         assert!(rt; writes(rt.alloc(), &["verify"], text, output) == Ok(true));
     }
+}
+
+#[test]
+fn all_kinds_of_statements_are_typed(rt: HostRuntime) {
+    let text =
+        b"structure s; flag gone; ptr next asc; lock; root h;\nstart h { key = MIN; }\nholds true;\nmethod contains(k) { var p, c, n;\nlock p; unlock root; loop { p = new; c = null; n = root; p = n; c = n.next; while (p.gone && p.key < k) { continue; } atomic { with c; test p.next == c; test !root.gone; n = root.next; write p.next = c; write p.gone = true; } else { break; } if (p == c) { return true; } else { continue; } } return false;\n}\n";
+    let first = b"structure s\neffects 1\n";
+    assert!(rt; reports(rt.alloc(), text, first, b"\nrejected start\n") == Ok(true));
 }

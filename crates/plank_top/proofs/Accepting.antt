@@ -11,10 +11,13 @@ use Rattle.plank_io.specs.Whole.{GivesAll}
 use Rattle.plank_top.specs.declared.status.Status.{Status}
 use Rattle.plank_top.specs.declared.status.Status.TheVariants as status
 use Rattle.plank_top.specs.declared.words.Command.{Command}
-use Rattle.plank_top.specs.declared.words.Command.TheVariants.{Verify, Print}
+use Rattle.plank_top.specs.declared.words.Command.TheVariants.{Verify, Effects, Print}
 use Rattle.plank_top.specs.Trees.{IsTextOf, IsUnreadable, malformed, too_deep}
-use Rattle.plank_top.specs.Answers.{Answer, IsJudgement, ill_typed, too_large, by_verdict, unreadable, readable, unprintable, printable, status_of}
-use Rattle.plank_top.specs.Endings.{Told, Ends, whole, write_fault, out_of_memory, Answers, Concludes, answered, unknown, Serves, whole_text, too_long, read_fault, no_memory}
+use Rattle.plank_top.specs.declared.replies.Telling.{Telling}
+use Rattle.plank_top.specs.declared.replies.Telling.TheVariants.{Whole, WithoutVerdict}
+use Rattle.plank_top.specs.Answers.{Answer, IsJudgement, ill_typed, too_large, judged, IsJudgingAnswer, unreadable, readable, unprintable, printable, status_of}
+use Rattle.plank_top.specs.Endings.{Told, Ends, whole, write_fault, out_of_memory, Concludes, answered, unknown, Serves, whole_text, too_long, read_fault, no_memory}
+use Rattle.plank_top.specs.Commands.{Answers}
 use Rattle.plank_top.specs.Soundness.{IsSound}
 
 -- the law of programs that were judged and accepted
@@ -30,23 +33,28 @@ refusal_is_no_acceptance : (bytes : List ℕ) (refused : Status) → IsUnreadabl
 refusal_is_no_acceptance bytes refused (malformed p why is) same = cc
 refusal_is_no_acceptance bytes refused (too_deep why is) same = cc
 
-judgement_is_sound : RunsLaw → (bytes : List ℕ) (t : Text) (answer : Answer) → IsTextOf bytes t → IsJudgement t answer → answer.status ≡ status.Accepted → IsSound bytes
-judgement_is_sound law bytes t answer read (ill_typed b first is) same = absurd (let wrong = ap (λ (a : Answer). a.status) is in cc)
-judgement_is_sound law bytes t answer read (too_large e first over is) same = absurd (let wrong = ap (λ (a : Answer). a.status) is in cc)
-judgement_is_sound law bytes t answer read (by_verdict p typed said judged is) same =
+judgement_is_sound : RunsLaw → (telling : Telling) (bytes : List ℕ) (t : Text) (answer : Answer) → IsTextOf bytes t → IsJudgement telling t answer → answer.status ≡ status.Accepted → IsSound bytes
+judgement_is_sound law telling bytes t answer read (ill_typed b first is) same = absurd (let wrong = ap (λ (a : Answer). a.status) is in cc)
+judgement_is_sound law telling bytes t answer read (too_large e first over is) same = absurd (let wrong = ap (λ (a : Answer). a.status) is in cc)
+judgement_is_sound law WithoutVerdict bytes t answer read (judged p typed said so is) same = absurd (let wrong = ap (λ (a : Answer). a.status) is in cc)
+judgement_is_sound law Whole bytes t answer read (judged p typed said so is) same =
     let accepted = is_accepted said.verdict (sym (ap (λ (a : Answer). a.status) is) ∙ same) in
     record {
       text = t;
       read = read;
       program = p;
       typed = typed;
-      linearizable = law.linearizable p said judged accepted;
-      no_null_reads = law.no_null_reads p said judged accepted;
+      linearizable = law.linearizable p said so accepted;
+      no_null_reads = law.no_null_reads p said so accepted;
     }
 
+judging_is_sound : RunsLaw → (telling : Telling) (bytes : List ℕ) (answer : Answer) → IsJudgingAnswer telling bytes answer → answer.status ≡ status.Accepted → IsSound bytes
+judging_is_sound law telling bytes answer (unreadable refused why is) same = absurd (refusal_is_no_acceptance bytes refused why (sym (ap (λ (a : Answer). a.status) is) ∙ same))
+judging_is_sound law telling bytes answer (readable t read judgement) same = judgement_is_sound law telling bytes t answer read judgement same
+
 answer_is_sound : RunsLaw → (command : Command) (bytes : List ℕ) (answer : Answer) → Answers command bytes answer → answer.status ≡ status.Accepted → IsSound bytes
-answer_is_sound law Verify bytes answer (unreadable refused why is) same = absurd (refusal_is_no_acceptance bytes refused why (sym (ap (λ (a : Answer). a.status) is) ∙ same))
-answer_is_sound law Verify bytes answer (readable t read judgement) same = judgement_is_sound law bytes t answer read judgement same
+answer_is_sound law Verify bytes answer why same = judging_is_sound law Whole bytes answer why same
+answer_is_sound law Effects bytes answer why same = judging_is_sound law WithoutVerdict bytes answer why same
 answer_is_sound law Print bytes answer (unprintable refused why is) same = absurd (refusal_is_no_acceptance bytes refused why (sym (ap (λ (a : Answer). a.status) is) ∙ same))
 answer_is_sound law Print bytes answer (printable t read is) same = absurd (let wrong = ap (λ (a : Answer). a.status) is in cc)
 

@@ -1,4 +1,4 @@
--- A text that is in order gets a verdict: it is read as one tree, and what a call answers to it is said of that tree.
+-- What a command takes is no refusal: a text is read as one tree, and what a call answers to it is said of that tree.
 use Rattle.std.proofs.Common.{◌≡◌, ℕ, ◌+◌, ◌≤◌, List, length, ◌++◌, refl, sym, ap, subst, ◌∙◌, arith}
 use Rattle.std.specs.Prelude.{true, Bool, Some, None, Ok, Err}
 use Rattle.std.proofs.Math.Bool.{Bool-set}
@@ -22,11 +22,17 @@ use Rattle.plank_judge.specs.declared.verdicts.Verdict.{Verdict}
 use Rattle.plank_io.specs.Whole.{GivesAll, GivesOver}
 use Rattle.plank_top.specs.declared.status.Status.{Status}
 use Rattle.plank_top.specs.declared.status.Status.TheVariants as status
-use Rattle.plank_top.specs.declared.words.Command.TheVariants.{Verify}
-use Rattle.plank_top.specs.Trees.{IsTextOf, IsMalformed, IsUnreadable, malformed, too_deep, bad_byte, bad_token}
-use Rattle.plank_top.specs.Answers.{Answer, IsJudgement, ill_typed, too_large, by_verdict, IsVerifyAnswer, unreadable, readable, status_of}
+use Rattle.plank_top.specs.declared.words.Command.{Command}
+use Rattle.plank_top.specs.declared.words.Command.TheVariants.{Verify, Effects, Print}
+use Rattle.plank_top.specs.declared.replies.Telling.{Telling}
+use Rattle.plank_top.specs.declared.replies.Telling.TheVariants.{Whole, WithoutVerdict}
+use Rattle.plank_prog.specs.declared.programs.Program.{Program}
+use Rattle.plank_verdict.specs.declared.judging.Judged.{Judged}
+use Rattle.plank_top.specs.Trees.{IsTextOf, IsOfGrammar, IsInOrder, IsMalformed, IsUnreadable, malformed, too_deep, bad_byte, bad_token}
+use Rattle.plank_top.specs.Answers.{Answer, IsJudgement, ill_typed, too_large, judged, IsJudgingAnswer, unreadable, readable, IsPrintAnswer, unprintable, printable, status_of, told_of}
 use Rattle.plank_top.specs.Endings.{Told, Ends, whole, write_fault, Concludes, answered, unknown, Serves, whole_text, too_long, read_fault, no_memory}
-use Rattle.plank_top.specs.Soundness.{IsInOrder, IsGiven, IsJudging, accepted, rejected, out_of_memory}
+use Rattle.plank_top.specs.Commands.{Answers, Takes, EndsJudging, accepted, rejected, EndsDone, done, EndsOnTaken}
+use Rattle.plank_top.specs.Soundness.{IsGiven}
 
 -- ---- one tree
 
@@ -76,30 +82,55 @@ is_readable bytes t refused x (too_deep why is) = no_text_deep why.tokens why.pl
 
 -- ---- what is answered
 
-verdict_judges : (verdict : Verdict) (ended : Status) → ended ≡ status_of verdict → IsJudging ended
+-- a text that is in order is judged
+pub record IsTold (telling : Telling) (answer : Answer) : Type 0 where
+  pub program : Program
+  pub said : Judged
+  pub is : answer ≡ told_of telling program said
+
+judgement_tells : (telling : Telling) (t u : Text) (answer : Answer) → t ≡ u → IsJudgement telling u answer → (typed : first_of (broken_rules t) ≡ None) → first_excess t ≡ None → IsTold telling answer
+judgement_tells telling t u answer one (ill_typed b first is) typed within = absurd (let so = ap (λ (v : Text). first_of (broken_rules v)) one in cc)
+judgement_tells telling t u answer one (too_large e first over is) typed within = absurd (let so = ap (λ (v : Text). first_excess v) one in cc)
+judgement_tells telling t u answer one (judged p program said so is) typed within = record { program = p; said = said; is = is }
+
+answer_tells : (telling : Telling) (bytes : List ℕ) → IsInOrder bytes → (answer : Answer) → IsJudgingAnswer telling bytes answer → IsTold telling answer
+answer_tells telling bytes x answer (unreadable refused why is) = absurd (is_readable bytes x.text refused x.read why)
+answer_tells telling bytes x answer (readable t read judgement) =
+    judgement_tells telling x.text t answer (one_tree bytes x.text t x.read read) judgement x.typed.rules x.typed.limits
+
+verdict_judges : (verdict : Verdict) (ended : Status) → ended ≡ status_of verdict → EndsJudging ended
 verdict_judges Verdict.Accepted ended is = accepted is
 verdict_judges (Verdict.Rejected o) ended is = rejected o is
 
-judgement_judges : (t u : Text) (answer : Answer) (ended : Status) → t ≡ u → IsJudgement u answer → (typed : first_of (broken_rules t) ≡ None) → first_excess t ≡ None → ended ≡ answer.status → IsJudging ended
-judgement_judges t u answer ended one (ill_typed b first is) typed within same = absurd (let so = ap (λ (v : Text). first_of (broken_rules v)) one in cc)
-judgement_judges t u answer ended one (too_large e first over is) typed within same = absurd (let so = ap (λ (v : Text). first_excess v) one in cc)
-judgement_judges t u answer ended one (by_verdict p program said judged is) typed within same = verdict_judges said.verdict ended (same ∙ ap (λ (a : Answer). a.status) is)
+print_done : (bytes : List ℕ) → IsOfGrammar bytes → (answer : Answer) → IsPrintAnswer bytes answer → answer.status ≡ status.Done
+print_done bytes x answer (unprintable refused why is) = absurd (is_readable bytes x.text refused x.read why)
+print_done bytes x answer (printable t read is) = ap (λ (a : Answer). a.status) is
 
-answer_judges : (bytes : List ℕ) → IsInOrder bytes → (answer : Answer) (ended : Status) → IsVerifyAnswer bytes answer → ended ≡ answer.status → IsJudging ended
-answer_judges bytes x answer ended (unreadable refused why is) same = absurd (is_readable bytes x.text refused x.read why)
-answer_judges bytes x answer ended (readable t read judgement) same =
-    judgement_judges x.text t answer ended (one_tree bytes x.text t x.read read) judgement x.typed.rules x.typed.limits same
+-- how a command that answered a text that it takes ends
+answered_so : (command : Command) (bytes : List ℕ) → Takes command bytes → (answer : Answer) (ended : Status) → Answers command bytes answer → ended ≡ answer.status → EndsOnTaken command ended
+answered_so Verify bytes x answer ended why same =
+    let told = answer_tells Whole bytes x answer why in
+    verdict_judges told.said.verdict ended (same ∙ ap (λ (a : Answer). a.status) told.is)
+answered_so Effects bytes x answer ended why same =
+    let told = answer_tells WithoutVerdict bytes x answer why in
+    done (same ∙ ap (λ (a : Answer). a.status) told.is)
+answered_so Print bytes x answer ended why same = done (same ∙ print_done bytes x answer why)
 
 -- ---- how a call ends
 
-ends_judging : (bytes : List ℕ) → IsInOrder bytes → (sink : Told) → (Rose sink.faults_before sink.faults_after → ⊥) → (answer : Answer) (ended : Status) → IsVerifyAnswer bytes answer → Ends sink ended answer → IsJudging ended
-ends_judging bytes x sink kept answer ended why (whole is taken) = answer_judges bytes x answer ended why is
-ends_judging bytes x sink kept answer ended why (write_fault is rose n short taken) = absurd (kept rose)
-ends_judging bytes x sink kept answer ended why (Ends.out_of_memory is same) = out_of_memory is
+without_memory : (command : Command) (ended : Status) → ended ≡ status.OutOfMemory → EndsOnTaken command ended
+without_memory Verify ended is = EndsJudging.no_memory is
+without_memory Effects ended is = EndsDone.no_memory is
+without_memory Print ended is = EndsDone.no_memory is
 
-concludes_judging : (bytes : List ℕ) → IsInOrder bytes → (sink : Told) → (Rose sink.faults_before sink.faults_after → ⊥) → (ended : Status) → Concludes Verify bytes sink ended → IsJudging ended
-concludes_judging bytes x sink kept ended (answered answer why e) = ends_judging bytes x sink kept answer ended why e
-concludes_judging bytes x sink kept ended (unknown is same) = out_of_memory is
+ends_so : (command : Command) (bytes : List ℕ) → Takes command bytes → (sink : Told) → (Rose sink.faults_before sink.faults_after → ⊥) → (answer : Answer) (ended : Status) → Answers command bytes answer → Ends sink ended answer → EndsOnTaken command ended
+ends_so command bytes x sink kept answer ended why (whole is taken) = answered_so command bytes x answer ended why is
+ends_so command bytes x sink kept answer ended why (write_fault is rose n short taken) = absurd (kept rose)
+ends_so command bytes x sink kept answer ended why (Ends.out_of_memory is same) = without_memory command ended is
+
+concludes_so : (command : Command) (bytes : List ℕ) → Takes command bytes → (sink : Told) → (Rose sink.faults_before sink.faults_after → ⊥) → (ended : Status) → Concludes command bytes sink ended → EndsOnTaken command ended
+concludes_so command bytes x sink kept ended (answered answer why e) = ends_so command bytes x sink kept answer ended why e
+concludes_so command bytes x sink kept ended (unknown is same) = without_memory command ended is
 
 all_given : (before after : Option (List ℕ)) (bytes text : List ℕ) → before ≡ Some bytes → GivesAll before after BYTES_LIMIT text → text ≡ bytes
 all_given before after bytes text e gives = sym (subst (λ (o : Option (List ℕ)). IfSome o (λ left. left ≡ text)) e gives.all)
@@ -115,10 +146,10 @@ not_over before after bytes text e few gives = go after (subst (λ (o : Option (
         let over = gives.over in
         absurd (omega arith)
 
-pub given_judges : (source sink : Told) (ended : Status) → IsGiven source sink → Serves Verify source sink ended → IsJudging ended
-given_judges source sink ended given (whole_text text gives concludes) =
-    concludes_judging given.bytes given.in_order sink given.sink_kept ended
-    (subst (λ ts. Concludes Verify ts sink ended) (all_given source.before source.after given.bytes text given.all gives) concludes)
-given_judges source sink ended given (too_long text gives e) = absurd (not_over source.before source.after given.bytes text given.all given.few gives)
-given_judges source sink ended given (read_fault is rose consumed kept) = absurd (given.source_kept rose)
-given_judges source sink ended given (no_memory is consumed kept) = out_of_memory is
+pub given_is_answered : (command : Command) (source sink : Told) (ended : Status) → IsGiven command source sink → Serves command source sink ended → EndsOnTaken command ended
+given_is_answered command source sink ended given (whole_text text gives concludes) =
+    concludes_so command given.bytes given.taken sink given.sink_kept ended
+    (subst (λ ts. Concludes command ts sink ended) (all_given source.before source.after given.bytes text given.all gives) concludes)
+given_is_answered command source sink ended given (too_long text gives e) = absurd (not_over source.before source.after given.bytes text given.all given.few gives)
+given_is_answered command source sink ended given (read_fault is rose consumed kept) = absurd (given.source_kept rose)
+given_is_answered command source sink ended given (no_memory is consumed kept) = without_memory command ended is

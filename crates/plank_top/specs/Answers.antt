@@ -1,6 +1,5 @@
 -- What each command answers to a text: its status, and the bytes that it writes.
-use Rattle.std.specs.Prelude.{◌≡◌, ℕ, ◌+◌, true, false, List, [], Some, None, slice_get}
-use Rattle.std.specs.Option.{option_map_or}
+use Rattle.std.specs.Prelude.{◌≡◌, ℕ, ◌+◌, List, Some, None}
 use Rattle.plank_base.specs.declared.limits.Thing.TheVariants as thing
 use Rattle.plank_base.specs.declared.limits.TheConstants.{BYTES_LIMIT}
 use Rattle.plank_ast.specs.declared.texts.Text.{Text}
@@ -12,14 +11,16 @@ use Rattle.plank_rules.specs.FirstOf.{first_of}
 use Rattle.plank_type.specs.declared.limits.Excess.{Excess}
 use Rattle.plank_type.specs.Limits.{first_excess}
 use Rattle.plank_type.specs.Checks.{IsProgramOf}
-use Rattle.plank_prog.specs.declared.methods.Method.{Method}
 use Rattle.plank_prog.specs.declared.programs.Program.{Program}
 use Rattle.plank_judge.specs.declared.verdicts.Verdict.{Verdict}
 use Rattle.plank_verdict.specs.declared.judging.Judged.{Judged}
 use Rattle.plank_verdict.specs.Judged.{IsJudged}
 use Rattle.plank_top.specs.declared.status.Status.{Status}
 use Rattle.plank_top.specs.declared.status.Status.TheVariants as status
-use Rattle.plank_top.specs.Lines.{line, refusal_text, report_text}
+use Rattle.plank_report.specs.Pieces.{line}
+use Rattle.plank_report.specs.Reports.{effects_text, report_text}
+use Rattle.plank_top.specs.declared.replies.Telling.{Telling}
+use Rattle.plank_top.specs.Lines.{refusal_text}
 use Rattle.plank_top.specs.Trees.{IsTextOf, IsUnreadable}
 
 pub record Answer : Type 0 where
@@ -34,35 +35,28 @@ refusal status = record { status = status; output = line (refusal_text status) }
 abbrev pub too_many_bytes : Answer
 too_many_bytes = refusal (status.TooLarge thing.Bytes (BYTES_LIMIT + 1) BYTES_LIMIT)
 
--- ---- verify
+-- ---- verify and effects
 
 abbrev pub status_of : Verdict → Status
 status_of Verdict.Accepted = status.Accepted
 status_of (Verdict.Rejected obligation) = status.Rejected obligation
 
--- the name of the method that the failing obligation is of
-abbrev pub method_name : List Method → Verdict → List ℕ
-method_name methods Verdict.Accepted = []
-method_name methods (Verdict.Rejected o) = option_map_or (λ m. m.name) (slice_get methods o.method) []
-
--- the report on a program of which this is said
-abbrev pub judged : Program → Judged → Answer
-judged p said = record {
-  status = status_of said.verdict;
-  output = report_text p.name said (method_name p.methods said.verdict);
-}
+-- what is told of a judged program: the report with the status of its verdict, or the report without its last line
+abbrev pub told_of : Telling → Program → Judged → Answer
+told_of Telling.Whole p said = record { status = status_of said.verdict; output = report_text p said.effects said.verdict }
+told_of Telling.WithoutVerdict p said = record { status = status.Done; output = effects_text p said.effects }
 
 -- A text of the grammar is refused with the first rule that it breaks, else with the first thing that it
 -- has too much of; else its program is judged.
-pub data IsJudgement (t : Text) (answer : Answer) : Type 0 where
-  ill_typed : (b : Broken) → first_of (broken_rules t) ≡ Some b → answer ≡ refusal (status.IllTyped b.kind b.place) → IsJudgement t answer
-  too_large : (e : Excess) → first_of (broken_rules t) ≡ None → first_excess t ≡ Some e → answer ≡ refusal (status.TooLarge e.thing e.count e.limit) → IsJudgement t answer
-  by_verdict : (p : Program) → IsProgramOf t p → (said : Judged) → IsJudged p said → answer ≡ judged p said → IsJudgement t answer
+pub data IsJudgement (telling : Telling) (t : Text) (answer : Answer) : Type 0 where
+  ill_typed : (b : Broken) → first_of (broken_rules t) ≡ Some b → answer ≡ refusal (status.IllTyped b.kind b.place) → IsJudgement telling t answer
+  too_large : (e : Excess) → first_of (broken_rules t) ≡ None → first_excess t ≡ Some e → answer ≡ refusal (status.TooLarge e.thing e.count e.limit) → IsJudgement telling t answer
+  judged : (p : Program) → IsProgramOf t p → (said : Judged) → IsJudged p said → answer ≡ told_of telling p said → IsJudgement telling t answer
 
--- the answer of `verify`
-pub data IsVerifyAnswer (bytes : List ℕ) (answer : Answer) : Type 0 where
-  unreadable : (refused : Status) → IsUnreadable bytes refused → answer ≡ refusal refused → IsVerifyAnswer bytes answer
-  readable : (t : Text) → IsTextOf bytes t → IsJudgement t answer → IsVerifyAnswer bytes answer
+-- the answer of `verify`, which tells the whole report, and of `effects`
+pub data IsJudgingAnswer (telling : Telling) (bytes : List ℕ) (answer : Answer) : Type 0 where
+  unreadable : (refused : Status) → IsUnreadable bytes refused → answer ≡ refusal refused → IsJudgingAnswer telling bytes answer
+  readable : (t : Text) → IsTextOf bytes t → IsJudgement telling t answer → IsJudgingAnswer telling bytes answer
 
 -- ---- print
 

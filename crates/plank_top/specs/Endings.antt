@@ -7,8 +7,8 @@ use Rattle.plank_io.specs.Whole.{GivesAll, GivesOver, ConsumesUpTo}
 use Rattle.plank_top.specs.declared.status.Status.{Status}
 use Rattle.plank_top.specs.declared.status.Status.TheVariants as status
 use Rattle.plank_top.specs.declared.words.Command.{Command}
-use Rattle.plank_top.specs.declared.words.Command.TheVariants.{Verify, Print}
-use Rattle.plank_top.specs.Answers.{Answer, IsVerifyAnswer, IsPrintAnswer, too_many_bytes}
+use Rattle.plank_top.specs.Answers.{Answer, too_many_bytes}
+use Rattle.plank_top.specs.Commands.{Answers}
 
 -- what a source or a sink tells of its bytes before a call and after it, and its counts of faults
 pub record Told : Type 0 where
@@ -27,11 +27,6 @@ pub data Ends (sink : Told) (ended : Status) (answer : Answer) : Type 0 where
   whole : ended ≡ answer.status → Appends sink.before sink.after answer.output → Ends sink ended answer
   write_fault : ended ≡ status.WriteFault → Rose sink.faults_before sink.faults_after → (n : ℕ) → n < length answer.output → Appends sink.before sink.after (take n answer.output) → Ends sink ended answer
   out_of_memory : ended ≡ status.OutOfMemory → Keeps sink.before sink.after → Ends sink ended answer
-
--- a command's answer to a text
-abbrev pub Answers : Command → List ℕ → Answer → Type 0
-Answers Verify text answer = IsVerifyAnswer text answer
-Answers Print text answer = IsPrintAnswer text answer
 
 -- the call ends with the command's answer to the text, or memory was refused before that was known
 pub data Concludes (command : Command) (text : List ℕ) (sink : Told) (ended : Status) : Type 0 where

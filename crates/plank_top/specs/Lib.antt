@@ -1,8 +1,9 @@
-pub mod Answers
-pub mod Endings
-pub mod Lines
-pub mod Replies
-pub mod Soundness
 pub mod Statuses
+pub mod Lines
 pub mod Trees
+pub mod Answers
+pub mod Replies
 pub mod Words
+pub mod Commands
+pub mod Endings
+pub mod Soundness

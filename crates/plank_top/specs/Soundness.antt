@@ -1,14 +1,13 @@
--- What `Accepted` says of a text, and which texts get a verdict.
+-- What `Accepted` says of a text, and when a command is given what it takes.
 use Rattle.std.specs.Prelude.{◌≡◌, ℕ, ◌≤◌, List, length, Some}
 use Rattle.plank_base.specs.declared.limits.TheConstants.{BYTES_LIMIT}
-use Rattle.plank_base.specs.declared.obligations.Obligation.{Obligation}
 use Rattle.plank_ast.specs.declared.texts.Text.{Text}
 use Rattle.plank_prog.specs.declared.programs.Program.{Program}
 use Rattle.plank_type.specs.Checks.{IsProgramOf}
 use Rattle.plank_sem.specs.Runs.{AllRunsLinearizable, NoNullReads}
 use Rattle.plank_io.specs.Faults.{Rose}
-use Rattle.plank_top.specs.declared.status.Status.{Status}
-use Rattle.plank_top.specs.declared.status.Status.TheVariants as status
+use Rattle.plank_top.specs.declared.words.Command.{Command}
+use Rattle.plank_top.specs.Commands.{Takes}
 use Rattle.plank_top.specs.Endings.{Told}
 use Rattle.plank_top.specs.Trees.{IsTextOf}
 
@@ -23,24 +22,11 @@ pub record IsSound (bytes : List ℕ) : Type 0 where
   pub linearizable : AllRunsLinearizable program.header program.methods
   pub no_null_reads : NoNullReads program.header program.methods
 
--- the text is of the grammar, well typed and within the limits
-pub record IsInOrder (bytes : List ℕ) : Type 0 where
-  pub text : Text
-  pub read : IsTextOf bytes text
-  pub program : Program
-  pub typed : IsProgramOf text program
-
--- such a text is all that the source has, and neither the source nor the sink fails
-pub record IsGiven (source sink : Told) : Type 0 where
+-- a text that the command takes is all that the source has, and neither the source nor the sink fails
+pub record IsGiven (command : Command) (source sink : Told) : Type 0 where
   pub bytes : List ℕ
   pub all : source.before ≡ Some bytes
   pub few : length bytes ≤ BYTES_LIMIT
-  pub in_order : IsInOrder bytes
+  pub taken : Takes command bytes
   pub source_kept : Rose source.faults_before source.faults_after → ⊥
   pub sink_kept : Rose sink.faults_before sink.faults_after → ⊥
-
--- the call ends with a verdict, or memory was refused
-pub data IsJudging (ended : Status) : Type 0 where
-  accepted : ended ≡ status.Accepted → IsJudging ended
-  rejected : (o : Obligation) → ended ≡ status.Rejected o → IsJudging ended
-  out_of_memory : ended ≡ status.OutOfMemory → IsJudging ended

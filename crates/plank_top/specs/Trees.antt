@@ -10,6 +10,8 @@ use Rattle.plank_parse.specs.Texts.{parts_of, reading_of}
 use Rattle.plank_parse.specs.Placing.{StandAt, text_places}
 use Rattle.plank_parse.specs.Outcomes.{IsReadingOf}
 use Rattle.plank_parse.specs.Grammar.{Spells, IsUnexpected, IsTooDeep}
+use Rattle.plank_prog.specs.declared.programs.Program.{Program}
+use Rattle.plank_type.specs.Checks.{IsProgramOf}
 use Rattle.plank_top.specs.declared.status.Status.{Status}
 use Rattle.plank_top.specs.declared.status.Status.TheVariants as status
 use Rattle.plank_top.specs.declared.trees.Tree.{Tree}
@@ -22,6 +24,18 @@ pub record IsTextOf (bytes : List ℕ) (t : Text) : Type 0 where
   pub spelled : Spells tokens t
   pub placed : StandAt (text_places (parts_of t)) tokens
   pub read : IsReadingOf (reading_of tokens) t
+
+-- the text is of the grammar
+pub record IsOfGrammar (bytes : List ℕ) : Type 0 where
+  pub text : Text
+  pub read : IsTextOf bytes text
+
+-- the text is of the grammar, well typed and within the limits
+pub record IsInOrder (bytes : List ℕ) : Type 0 where
+  pub text : Text
+  pub read : IsTextOf bytes text
+  pub program : Program
+  pub typed : IsProgramOf text program
 
 -- The text is none of the grammar: this is the place of the first byte that begins no token, or else of
 -- the first token with which the tokens so far begin no text.

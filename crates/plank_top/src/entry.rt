@@ -5,11 +5,11 @@ ghost use Rattle.plank_top.specs.declared.words.Command.{Command};
 ghost use Rattle.plank_top.specs.Words.{words_of};
 ghost use Rattle.plank_top.specs.Answers.{refusal};
 ghost use Rattle.plank_top.specs.Replies.{answer_in};
-ghost use Rattle.plank_top.specs.Endings.{Answers, Ends, Concludes, Serves, told};
-ghost use Rattle.plank_top.specs.declared.words.Command.TheVariants.{Verify};
-ghost use Rattle.plank_top.specs.Soundness.{IsSound, IsGiven, IsJudging};
+ghost use Rattle.plank_top.specs.Endings.{Ends, Concludes, Serves, told};
+ghost use Rattle.plank_top.specs.Commands.{Answers, EndsOnTaken};
+ghost use Rattle.plank_top.specs.Soundness.{IsSound, IsGiven};
 
-use crate::replies::{Reply, print, refuse, verify};
+use crate::replies::{Reply, Telling, judge_bytes, print, refuse};
 use crate::status::Status;
 use crate::words::{Command, command_of};
 use plank_base::{BYTES_LIMIT, OutOfMemory, Thing};
@@ -43,7 +43,8 @@ fn reply_to(alloc: Global, command: Command, text: &[u8]) -> Result<Reply, OutOf
     ensures { IfOk result (λ r. Answers command text.now (answer_in r)) }
 {
     match command {
-        Command::Verify => verify(alloc, text),
+        Command::Verify => judge_bytes(alloc, text, Telling::Whole),
+        Command::Effects => judge_bytes(alloc, text, Telling::WithoutVerdict),
         Command::Print => print(alloc, text),
     }
 }
@@ -113,12 +114,13 @@ pub fn top<R, S: Source, K: Sink, G: Gate>(
     ensures sound { result ≡ Status.Accepted →
         (text : List ℕ) × GivesAll (S.left source.old) (S.left source.new) BYTES_LIMIT text × IsSound text }
 
-    // A text of the grammar that is well typed and within the limits gets a verdict, unless the source or
-    // the sink fails, or memory is refused.
-    ensures complete { map string_bytes words.now ≡ words_of Verify →
-        IsGiven (told (S.left source.old) (S.left source.new) (S.faults source.old) (S.faults source.new))
+    // A text that the command takes is answered with more than a refusal, unless the source or the sink fails, or
+    // memory is refused: `verify` gives a verdict on a text of the grammar that is well typed and within the limits,
+    // `effects` tells its effects, and `print` writes any text of the grammar.
+    ensures complete { (command : Command) → map string_bytes words.now ≡ words_of command →
+        IsGiven command (told (S.left source.old) (S.left source.new) (S.faults source.old) (S.faults source.new))
         (told (K.taken sink.old) (K.taken sink.new) (K.faults sink.old) (K.faults sink.new)) →
-        IsJudging result }
+        EndsOnTaken command result }
 {
     accepted_runs_law();
     match command_of(words) {

@@ -1,17 +1,18 @@
 ghost use Rattle.std.specs.Prelude.{◌≡◌, ◌≤◌, length, IfOk};
-ghost use Rattle.plank_top.specs.Answers.{refusal, judged, printed, status_of, method_name, IsJudgement, IsVerifyAnswer, IsPrintAnswer};
+ghost use Rattle.plank_top.specs.Answers.{refusal, printed, status_of, told_of, IsJudgement, IsJudgingAnswer, IsPrintAnswer};
 ghost use Rattle.plank_top.specs.Replies.{answer_in};
 ghost use Rattle.plank_ast.specs.declared.texts.Text.{Text};
 ghost use Rattle.plank_type.specs.Checks.{IsProgramOf};
 
-use crate::printing::{refusal_line, report};
+use crate::printing::refusal_line;
 use crate::status::Status;
 use crate::trees::{Tree, tree_of};
 use plank_ast::Text;
 use plank_base::{BYTES_LIMIT, OutOfMemory};
 use plank_judge::Verdict;
-use plank_prog::{Method, Program};
+use plank_prog::Program;
 use plank_prove::judge;
+use plank_report::{report, report_effects};
 use plank_type::{TypeFault, check};
 use plank_verdict::Judged;
 use std::alloc::Global;
@@ -41,44 +42,56 @@ fn status_of(verdict: Verdict) -> Status
     }
 }
 
-/// The name of the method that the failing obligation is of; empty where none fails.
-fn method_name(methods: &[Method], verdict: Verdict) -> &[u8]
-    ensures { result.now ≡ method_name methods.now verdict }
+/// What a command tells of a judged program.
+#[derive(Clone, Copy, Debug, PartialEq, Eq)]
+pub enum Telling {
+    /// The report, and its verdict as the status.
+    Whole,
+    /// The report without its last line.
+    WithoutVerdict,
+}
+
+/// Tells of a program what was judged of it.
+fn tell(
+    alloc: Global,
+    program: &Program,
+    said: &Judged,
+    telling: Telling,
+) -> Result<Reply, OutOfMemory>
+    ensures { IfOk result (λ r. answer_in r ≡ told_of telling program.now said.now) }
 {
-    match verdict {
-        Verdict::Accepted => &[],
-        Verdict::Rejected(obligation) => match methods.get(obligation.method as usize) {
-            Some(method) => method.name.as_bytes(),
-            None => &[],
-        },
+    let effects = said.effects.as_slice();
+    match telling {
+        Telling::Whole => {
+            let output = report(alloc, program, effects, said.verdict)?;
+            let status = status_of(said.verdict);
+            Ok(Reply { status, output })
+        }
+        Telling::WithoutVerdict => {
+            let output = report_effects(alloc, program, effects)?;
+            let status = Status::Done;
+            Ok(Reply { status, output })
+        }
     }
 }
 
-/// The report on a program of which this is said.
-fn report_on(alloc: Global, program: &Program, said: Judged) -> Result<Reply, OutOfMemory>
-    ensures { IfOk result (λ r. answer_in r ≡ judged program.now said) }
-{
-    let method = method_name(program.methods.as_slice(), said.verdict);
-    let output = report(alloc, program.name.as_bytes(), said, method)?;
-    let status = status_of(said.verdict);
-    Ok(Reply { status, output })
-}
-
 /// Judges the program of a text.
-fn judge_program(alloc: Global, program: &Program) -> Result<Reply, OutOfMemory>
-    ensures { IfOk result (λ r. (t : Text) → IsProgramOf t program.now → IsJudgement t (answer_in r)) }
+fn judge_program(alloc: Global, program: &Program, telling: Telling) -> Result<Reply, OutOfMemory>
+    ensures { IfOk result (λ r. (t : Text) → IsProgramOf t program.now → IsJudgement telling t (answer_in r)) }
 {
     let said = judge(alloc, program)?;
-    report_on(alloc, program, said)
+    let reply = tell(alloc, program, &said, telling);
+    drop(said);
+    reply
 }
 
 /// Types a text and judges its program.
-fn judge_text(alloc: Global, text: &Text) -> Result<Reply, OutOfMemory>
-    ensures { IfOk result (λ r. IsJudgement text.now (answer_in r)) }
+fn judge_text(alloc: Global, text: &Text, telling: Telling) -> Result<Reply, OutOfMemory>
+    ensures { IfOk result (λ r. IsJudgement telling text.now (answer_in r)) }
 {
     match check(alloc, text) {
         Ok(program) => {
-            let reply = judge_program(alloc, &program);
+            let reply = judge_program(alloc, &program, telling);
             drop(program);
             reply
         }
@@ -90,14 +103,14 @@ fn judge_text(alloc: Global, text: &Text) -> Result<Reply, OutOfMemory>
     }
 }
 
-/// Judges a text.
-pub fn verify(alloc: Global, bytes: &[u8]) -> Result<Reply, OutOfMemory>
+/// Judges a text, and tells what it is to be told of it.
+pub fn judge_bytes(alloc: Global, bytes: &[u8], telling: Telling) -> Result<Reply, OutOfMemory>
     requires { length bytes.now ≤ BYTES_LIMIT }
-    ensures { IfOk result (λ r. IsVerifyAnswer bytes.now (answer_in r)) }
+    ensures { IfOk result (λ r. IsJudgingAnswer telling bytes.now (answer_in r)) }
 {
     match tree_of(alloc, bytes)? {
         Tree::Text(text) => {
-            let reply = judge_text(alloc, &text);
+            let reply = judge_text(alloc, &text, telling);
             drop(text);
             reply
         }

@@ -1,3 +1,4 @@
-pub mod Counting
 pub mod Reaching
+pub mod Keeping
+pub mod Listing
 pub mod Acceptance

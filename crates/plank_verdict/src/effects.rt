@@ -1,22 +1,24 @@
-// How many locations of a program are effects.
-ghost use Rattle.std.specs.Prelude.{◌≡◌, ◌↔◌, ◌+◌, ◌*◌, ◌<◌, ◌≤◌, length, slice_get, IsTrue, IfOk};
+// The effects of a program.
+ghost use Rattle.std.specs.Prelude.{◌≡◌, ◌↔◌, ◌+◌, ◌<◌, length, slice_get, IsTrue, IfOk, OnOk};
 ghost use Rattle.std.specs.Option.{option_map_or};
-ghost use Rattle.plank_base.specs.declared.limits.TheConstants.{LOCATIONS_LIMIT};
 ghost use Rattle.plank_prog.specs.Methods.{location_count};
 ghost use Rattle.plank_pic.specs.declared.literals.Exit.{Exit};
 ghost use Rattle.plank_fact.specs.Outlines.{Point};
 ghost use Rattle.plank_marks.specs.Marks.{mark_words};
 ghost use Rattle.plank_query.specs.Places.{IsOwnTurnAt};
 ghost use Rattle.plank_judge.specs.Verdicts.{outline_of};
-ghost use Rattle.plank_verdict.specs.Effects.{IsEffectAt, IsCount, IsEffectCount, IsReached};
+ghost use Rattle.plank_verdict.specs.Effects.{IsEffectAt, AreEffectsBefore, AreEffects, IsReached};
 
+use crate::kept::kept_facts;
 use plank_base::OutOfMemory;
 use plank_bits::MarkWords;
 use plank_claim::{Known, add_claims, ask};
+use plank_judge::Effect;
 use plank_marks::{At, location_count};
 use plank_pic::Exit;
 use plank_prog::Program;
 use plank_query::{Goal, Oracle, OwnTurn, Situation, Speaker};
+use sqlite_items::Items;
 use std::alloc::Global;
 
 // The locations of a program, at some marks.
@@ -32,15 +34,6 @@ fn first_of(answers: &[bool]) -> bool
     ensures { slice_get answers.now 0 ≡ Some result }
 {
     answers[0]
-}
-
-// One more, where there is one.
-fn more(count: u32, is: bool) -> u32
-    requires { count < 4294967295 }
-    ensures yes { IsTrue is → result ≡ count + 1 }
-    ensures no { (IsTrue is → ⊥) → result ≡ count }
-{
-    if is { count + 1 } else { count }
 }
 
 impl<'a, Q: Oracle> Locations<'a, Q> {
@@ -97,43 +90,69 @@ impl<'a, Q: Oracle> Locations<'a, Q> {
         }
     }
 
-    // How many locations of a method are effects.
-    fn of_method(&self, alloc: Global, method: u32) -> Result<u32, OutOfMemory>
+    // Adds the effect at a location, where it is one.
+    fn add(&self, alloc: Global, effects: &mut Vec<Effect>, at: At) -> Result<(), OutOfMemory>
+        requires method { at.method < length self.now.program.now.methods }
+        requires location { at.location < option_map_or location_count
+            (slice_get self.now.program.now.methods at.method) 0 }
+        requires marks { length self.now.marks.now ≡ mark_words self.now.program.now.methods }
+        requires so_far { AreEffectsBefore (outline_of self.now.program.now self.now.marks.now)
+            at.method at.location effects.old.items }
+        ensures { OnOk result (AreEffectsBefore (outline_of self.now.program.now self.now.marks.now)
+            at.method (at.location + 1) effects.new.items) }
+    {
+        if !self.is_effect(alloc, at)? {
+            return Ok(());
+        }
+        let facts = kept_facts(alloc, self.program, self.marks, at)?;
+        effects.push(Effect {
+            method: at.method,
+            location: at.location,
+            facts: Items::from_vec(facts),
+        })?;
+        Ok(())
+    }
+
+    // Adds the effects of a method.
+    fn add_method(
+        &self,
+        alloc: Global,
+        effects: &mut Vec<Effect>,
+        method: u32,
+    ) -> Result<(), OutOfMemory>
         requires method { method < length self.now.program.now.methods }
         requires marks { length self.now.marks.now ≡ mark_words self.now.program.now.methods }
-        ensures count { IfOk result (IsCount
-            (IsEffectAt (outline_of self.now.program.now self.now.marks.now) method)
-            (option_map_or location_count (slice_get self.now.program.now.methods method) 0)) }
-        ensures few { IfOk result (λ count. count ≤ LOCATIONS_LIMIT) }
+        requires so_far { AreEffectsBefore (outline_of self.now.program.now self.now.marks.now)
+            method 0 effects.old.items }
+        ensures { OnOk result (AreEffectsBefore (outline_of self.now.program.now self.now.marks.now)
+            (method + 1) 0 effects.new.items) }
     {
-        let mut count = 0;
         for location in 0..location_count(self.program, method) {
-            let effect = self.is_effect(alloc, At { method, location })?;
-            count = more(count, effect);
+            self.add(alloc, effects, At { method, location })?;
         }
-        Ok(count)
+        Ok(())
     }
 }
 
-/// How many effects a program has at the marks: locations that write, and that a call may come to.
-pub fn count_effects<Q: Oracle>(
+/// The effects of a program at the marks, in the order of the text: locations that write, and that a call may
+/// come to.
+pub fn list_effects<Q: Oracle>(
     alloc: Global,
     oracle: &Q,
     program: &Program,
     marks: &MarkWords,
-) -> Result<u32, OutOfMemory>
+) -> Result<Items<Effect>, OutOfMemory>
     requires { length marks.now ≡ mark_words program.now.methods }
-    ensures { IfOk result (IsEffectCount (outline_of program.now marks.now) (length program.now.methods)) }
+    ensures { IfOk result (AreEffects (outline_of program.now marks.now)) }
 {
     let locations = Locations {
         oracle,
         program,
         marks,
     };
-    let mut count = 0;
+    let mut effects = Vec::new(alloc);
     for method in 0..program.methods.len() as u32 {
-        let here = locations.of_method(alloc, method)?;
-        count += here;
+        locations.add_method(alloc, &mut effects, method)?;
     }
-    Ok(count)
+    Ok(Items::from_vec(effects))
 }

@@ -5,21 +5,22 @@ ghost use Rattle.plank_marks.specs.Marks.{mark_words};
 ghost use Rattle.plank_judge.specs.Verdicts.{outline_of};
 ghost use Rattle.plank_verdict.specs.Judged.{IsJudged};
 
-use crate::effects::count_effects;
+use crate::effects::list_effects;
 use plank_base::OutOfMemory;
 use plank_bits::{MarkWords, Steps};
-use plank_judge::{Demands, Verdict, judge};
+use plank_judge::{Demands, Effect, Verdict, judge};
 use plank_method::{Deciding, rounds};
 use plank_query::Oracle;
+use sqlite_items::Items;
 use std::alloc::Global;
 use std::marker::Sync;
 use std::sync::ledger::Ledger;
 
 /// What is said of a program at its least marks.
-#[derive(Clone, Copy)]
+#[derive(Debug, Drop)]
 pub struct Judged {
-    /// How many locations write, and may be come to.
-    pub effects: u32,
+    /// Its effects, in the order of the text.
+    pub effects: Items<Effect>,
     pub verdict: Verdict,
 }
 
@@ -36,7 +37,7 @@ pub fn judge_at<Q: Oracle, J: Demands>(
     requires valid { IsValid (outline_of (J.program demands.now) marks.now) }
     ensures { IfOk result (IsJudged (J.program demands.now)) }
 {
-    let effects = count_effects(alloc, oracle, demands.program(), marks)?;
+    let effects = list_effects(alloc, oracle, demands.program(), marks)?;
     let verdict = judge(alloc, demands, marks)?;
     Ok(Judged { effects, verdict })
 }

@@ -3,7 +3,8 @@
 
 mod effects;
 mod judging;
+mod kept;
 pub mod laws;
 
-pub use effects::count_effects;
+pub use effects::list_effects;
 pub use judging::{Judged, judge_at, judge_program};

@@ -1,7 +1,7 @@
 use Rattle.std.proofs.lemmas.Result.{IfOk-weaker}
-use Rattle.plank_top.specs.Answers.{by_verdict}
+use Rattle.plank_top.specs.Answers.{judged}
 use Rattle.plank_top.proofs.replies.judge_program.Goals as goal
 
 pub returns : goal.returns
 returns c =
-    IfOk-weaker c.report_on.result _ _ (λ r h t typed. by_verdict c.args.program.now typed c.in_ok-said.said c.in_ok-said.ensures h) c.report_on.ensures
+    IfOk-weaker c.tell-reply.result _ _ (λ r h t typed. judged c.args.program.now typed c.in_ok-said.said c.in_ok-said.ensures h) c.tell-reply.ensures

@@ -17,5 +17,10 @@ returns-in-len1-clause-named c =
 
 pub returns-in-len1-2-clause-named : goal.returns-in-len1-2-clause-named
 returns-in-len1-2-clause-named c =
-    only_element string_bytes c.args.words.now c.word-item-then-words-lt2.result (codes "print") (omega arith) (omega arith) c.word-item-then-words-lt2.is
-    (sym c.as_str-then-words-lt2.ensures.value ∙ (bytes_eq-Decides c.as_str-then-words-lt2.result.now (codes "print")).0 (sym c.eq-then-words-lt2.ensures ∙ c.if-eq-2.true))
+    only_element string_bytes c.args.words.now c.word-item-then-words-lt2.result (codes "effects") (omega arith) (omega arith) c.word-item-then-words-lt2.is
+    (sym c.as_str-then-words-lt2.ensures.value ∙ (bytes_eq-Decides c.as_str-then-words-lt2.result.now (codes "effects")).0 (sym c.eq-then-words-lt2.ensures ∙ c.if-eq-2.true))
+
+pub returns-in-len1-3-clause-named : goal.returns-in-len1-3-clause-named
+returns-in-len1-3-clause-named c =
+    only_element string_bytes c.args.words.now c.word-item-then-words-lt2-2.result (codes "print") (omega arith) (omega arith) c.word-item-then-words-lt2-2.is
+    (sym c.as_str-then-words-lt2-2.ensures.value ∙ (bytes_eq-Decides c.as_str-then-words-lt2-2.result.now (codes "print")).0 (sym c.eq-then-words-lt2-2.ensures ∙ c.if-eq-3.true))

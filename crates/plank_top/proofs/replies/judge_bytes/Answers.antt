@@ -1,7 +1,7 @@
 use Rattle.std.proofs.lemmas.Result.{IfOk-weaker}
 use Rattle.plank_top.specs.Trees.{IsTextOf}
 use Rattle.plank_top.specs.Answers.{unreadable, readable}
-use Rattle.plank_top.proofs.replies.verify.Goals as goal
+use Rattle.plank_top.proofs.replies.judge_bytes.Goals as goal
 
 pub returns-in-Text : goal.returns-in-Text
 returns-in-Text c =
