@@ -19,3 +19,5 @@ mod tokens;
 mod typing;
 #[cfg(test)]
 mod verdicts;
+#[cfg(test)]
+mod workers;

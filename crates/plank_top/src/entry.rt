@@ -1,21 +1,24 @@
-ghost use Rattle.std.specs.Prelude.{◌≡◌, ◌≢◌, ◌≤◌, List, ℕ, map, length, IfOk};
+ghost use Rattle.std.specs.Prelude.{◌≡◌, ◌≤◌, List, ℕ, map, length, Some, None, IfOk};
 ghost use Rattle.std.specs.String.{string_bytes};
 ghost use Rattle.plank_io.specs.Whole.{GivesAll};
-ghost use Rattle.plank_top.specs.declared.words.Command.{Command};
-ghost use Rattle.plank_top.specs.Words.{words_of};
+ghost use Rattle.plank_top.specs.declared.words.Asked.{Asked};
+ghost use Rattle.plank_top.specs.Words.{asked_by};
 ghost use Rattle.plank_top.specs.Answers.{refusal};
 ghost use Rattle.plank_top.specs.Replies.{answer_in};
 ghost use Rattle.plank_top.specs.Endings.{Ends, Concludes, Serves, told};
 ghost use Rattle.plank_top.specs.Commands.{Answers, EndsOnTaken};
 ghost use Rattle.plank_top.specs.Soundness.{IsSound, IsGiven};
 
+use crate::crews::Crew;
 use crate::replies::{Reply, Telling, judge_bytes, print, refuse};
 use crate::status::Status;
-use crate::words::{Command, command_of};
+use crate::words::{Command, asked_by};
 use plank_base::{BYTES_LIMIT, OutOfMemory, Thing};
 use plank_io::{Gate, Reading, Sink, Source, Written, read_up_to, write_all};
 use plank_verdict::laws::accepted_runs_law;
 use std::alloc::Global;
+use std::marker::Sync;
+use std::thread::Threads;
 
 /// Writes a reply whole, and answers its status or the sink's fault.
 fn finish<K: Sink>(sink: &mut K, reply: &Reply) -> Status
@@ -38,32 +41,44 @@ fn end_refused<K: Sink>(alloc: Global, sink: &mut K, status: Status) -> Status
 }
 
 /// What a command is to say to a whole text.
-fn reply_to(alloc: Global, command: Command, text: &[u8]) -> Result<Reply, OutOfMemory>
+fn reply_to<R: Threads + Sync, G: Gate>(
+    alloc: Global,
+    command: Command,
+    text: &[u8],
+    crew: &Crew<'_, R, G>,
+) -> Result<Reply, OutOfMemory>
     requires { length text.now ≤ BYTES_LIMIT }
     ensures { IfOk result (λ r. Answers command text.now (answer_in r)) }
 {
     match command {
-        Command::Verify => judge_bytes(alloc, text, Telling::Whole),
-        Command::Effects => judge_bytes(alloc, text, Telling::WithoutVerdict),
+        Command::Verify => judge_bytes(alloc, text, Telling::Whole, crew),
+        Command::Effects => judge_bytes(alloc, text, Telling::WithoutVerdict, crew),
         Command::Print => print(alloc, text),
     }
 }
 
 /// Answers a whole text.
-fn conclude<K: Sink>(alloc: Global, command: Command, text: &[u8], sink: &mut K) -> Status
+fn conclude<R: Threads + Sync, G: Gate, K: Sink>(
+    alloc: Global,
+    command: Command,
+    text: &[u8],
+    crew: &Crew<'_, R, G>,
+    sink: &mut K,
+) -> Status
     requires { length text.now ≤ BYTES_LIMIT }
     ensures { Concludes command text.now (told (K.taken sink.old) (K.taken sink.new) (K.faults sink.old) (K.faults sink.new)) result }
 {
-    match reply_to(alloc, command, text) {
+    match reply_to(alloc, command, text, crew) {
         Ok(reply) => finish(sink, &reply),
         Err(OutOfMemory) => Status::OutOfMemory,
     }
 }
 
 /// Reads a text and answers it.
-fn serve<S: Source, K: Sink>(
+fn serve<R: Threads + Sync, G: Gate, S: Source, K: Sink>(
     alloc: Global,
     command: Command,
+    crew: &Crew<'_, R, G>,
     source: &mut S,
     sink: &mut K,
 ) -> Status
@@ -73,7 +88,7 @@ fn serve<S: Source, K: Sink>(
         result }
 {
     match read_up_to(alloc, source, BYTES_LIMIT as usize) {
-        Ok(Reading::Whole(text)) => conclude(alloc, command, &text, sink),
+        Ok(Reading::Whole(text)) => conclude(alloc, command, &text, crew, sink),
         Ok(Reading::Over(_)) => {
             let too_large = Status::TooLarge(Thing::Bytes, BYTES_LIMIT + 1, BYTES_LIMIT);
             end_refused(alloc, sink, too_large)
@@ -89,22 +104,22 @@ fn serve<S: Source, K: Sink>(
 /// The words are those of a command line without the program's name. At most 131,073 bytes are read, in
 /// pieces of at most 4,096, and nothing is written before the whole output is made. Where memory is
 /// refused, nothing was written.
-pub fn top<R, S: Source, K: Sink, G: Gate>(
-    _rt: &R,
+pub fn top<R: Threads + Sync, S: Source, K: Sink, G: Gate>(
+    rt: &R,
     alloc: Global,
     words: &[String],
     source: &mut S,
     sink: &mut K,
-    _gate: &G,
+    gate: &G,
 ) -> Status
     // Words that name no command are refused, and nothing is read.
-    ensures usage { ((command : Command) → map string_bytes words.now ≢ words_of command) →
+    ensures usage { asked_by (map string_bytes words.now) ≡ None →
         (source.new ≡ source.old)
         × Ends (told (K.taken sink.old) (K.taken sink.new) (K.faults sink.old) (K.faults sink.new)) result (refusal Status.Usage) }
 
-    // Each answer to a command has its cause.
-    ensures served { (command : Command) → map string_bytes words.now ≡ words_of command →
-        Serves command
+    // Each answer to a command has its cause, whatever the number of workers, the gate and the order of their steps.
+    ensures served { (asked : Asked) → asked_by (map string_bytes words.now) ≡ Some asked →
+        Serves asked.command
         (told (S.left source.old) (S.left source.new) (S.faults source.old) (S.faults source.new))
         (told (K.taken sink.old) (K.taken sink.new) (K.faults sink.old) (K.faults sink.new))
         result }
@@ -117,14 +132,21 @@ pub fn top<R, S: Source, K: Sink, G: Gate>(
     // A text that the command takes is answered with more than a refusal, unless the source or the sink fails, or
     // memory is refused: `verify` gives a verdict on a text of the grammar that is well typed and within the limits,
     // `effects` tells its effects, and `print` writes any text of the grammar.
-    ensures complete { (command : Command) → map string_bytes words.now ≡ words_of command →
-        IsGiven command (told (S.left source.old) (S.left source.new) (S.faults source.old) (S.faults source.new))
+    ensures complete { (asked : Asked) → asked_by (map string_bytes words.now) ≡ Some asked →
+        IsGiven asked.command (told (S.left source.old) (S.left source.new) (S.faults source.old) (S.faults source.new))
         (told (K.taken sink.old) (K.taken sink.new) (K.faults sink.old) (K.faults sink.new)) →
-        EndsOnTaken command result }
+        EndsOnTaken asked.command result }
 {
     accepted_runs_law();
-    match command_of(words) {
-        Some(command) => serve(alloc, command, source, sink),
+    match asked_by(words) {
+        Some(asked) => {
+            let crew = Crew {
+                rt,
+                workers: asked.workers,
+                gate,
+            };
+            serve(alloc, asked.command, &crew, source, sink)
+        }
         None => end_refused(alloc, sink, Status::Usage),
     }
 }
