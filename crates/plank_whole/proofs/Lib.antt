@@ -1,4 +1,6 @@
-pub mod Passing
+pub mod Ordered
+pub mod Unpicked
+pub mod Idle
 pub mod Sure
 mod Meeting
 mod Putting

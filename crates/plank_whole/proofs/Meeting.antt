@@ -4,7 +4,12 @@ use Rattle.std.specs.Prelude.{◌&&◌}
 use Rattle.std.specs.List.{list_all}
 use Rattle.std.proofs.lemmas.Bool.{cases_eq, and_parts, and_from, true≢false, false_from_ne_true}
 use Rattle.std.proofs.lemmas.List.Folds.{list_all-append}
-use Rattle.plank_lawful.specs.Lists.{joined}
+use Rattle.plank_lawful.specs.declared.families.Family.{Family}
+use Rattle.plank_lawful.specs.Families.{count, shape_of}
+use Rattle.plank_lawful.specs.Lists.{joined, rule, rule_alone, rules_by_third}
+use Rattle.plank_whole.specs.declared.wholes.Picture.{Picture}
+use Rattle.plank_whole.specs.Wholes.{frame_of}
+use Rattle.plank_whole.specs.Judging.{meets}
 
 pub all_joined_none : {X : Type 0} (test : X → Bool) (each : ℕ → List X) → list_all test (joined each 0) ≡ true
 unfolding joined
@@ -53,3 +58,16 @@ six_hold test a b c d e f =
     ∙ ap (λ v. v && list_all test e) (list_all-append test (a ++ b ++ c) d
     ∙ ap (λ v. v && list_all test d) (list_all-append test (a ++ b) c
     ∙ ap (λ v. v && list_all test c) (list_all-append test a b))))
+
+-- ---- rules, each of which holds
+
+pub all_joined : {X : Type 0} (test : X → Bool) (each : ℕ → List X) (n : ℕ) → ((i : ℕ) → i < n → list_all test (each i) ≡ true) → list_all test (joined each n) ≡ true
+unfolding joined
+all_joined test each zero h = refl
+all_joined test each (suc n) h =
+    list_all-append test (joined each n) (each n)
+    ∙ and_from (list_all test (joined each n)) (list_all test (each n)) (all_joined test each n (λ i below. h i (omega arith))) (h n (omega arith))
+
+pub third_meets : (w : Picture) (family : Family) (a b : ℕ) → ((c : ℕ) → meets w (rule family a b c) ≡ true) → list_all (meets w) (rules_by_third (frame_of w) family a b) ≡ true
+third_meets w family a b h =
+    all_joined (meets w) (rule_alone family a b) (count (frame_of w) (shape_of family).third a) (λ c below. alone_holds (meets w) (rule family a b c) (h c))

@@ -1,4 +1,6 @@
 pub mod Wholes
 pub mod Judging
 pub mod Stepping
-pub mod Shortcuts
+pub mod Cells
+pub mod Ranks
+pub mod Rows

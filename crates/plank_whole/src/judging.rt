@@ -1,10 +1,11 @@
 // Whether a whole picture is lawful: each rule of its frame is asked, and no list of them is made.
-ghost use Rattle.std.specs.Prelude.{◌≡◌, ◌↔◌, ◌<◌, true};
+ghost use Rattle.std.specs.Prelude.{◌≡◌, ◌↔◌, ◌<◌, true, IfSome};
 ghost use Rattle.std.specs.List.{list_all};
 ghost use Rattle.plank_pic.specs.Lawful.{IsPossible, IsLawful};
 ghost use Rattle.plank_lawful.specs.Lists.{rules_by_third, rules_by_second, rules_of, rules_of_all, rules_of_possible, rules_of_lawful};
 ghost use Rattle.plank_whole.specs.Wholes.{frame_of, shown};
 ghost use Rattle.plank_whole.specs.Judging.{meets};
+ghost use Rattle.plank_whole.specs.Rows.{row_of};
 
 use crate::answers::is_true;
 use crate::wholes::Picture;
@@ -44,17 +45,28 @@ impl<'a> Picture<'a> {
         true
     }
 
+    // The same, where a row tells which of them ask nothing.
+    fn meets_by_row(&self, row: Option<usize>, family: Family, first: u8, second: u8) -> bool
+        requires first { first < 255 }
+        requires row { row ≡ row_of (frame_of self.now) family first }
+        requires small { IfSome row (λ base. base < 1_000_000) }
+        ensures { result ≡ list_all (meets self.now) (rules_by_third (frame_of self.now) family first second) }
+    {
+        if self.is_idle(row, second) {
+            return true;
+        }
+        self.meets_by_third(family, first, second)
+    }
+
     // Whether those with this first index hold.
     #[tactic(auto, using(crate::proofs::Meeting::all_joined_none))]
     fn meets_by_second(&self, family: Family, first: u8) -> bool
         requires { first < 255 }
         ensures { result ≡ list_all (meets self.now) (rules_by_second (frame_of self.now) family first) }
     {
-        if self.passes_by_second(family, first) {
-            return true;
-        }
+        let row = self.row_of(family, first);
         for second in 0..count(self, shape_of(family).second, first) {
-            if !self.meets_by_third(family, first, second) {
+            if !self.meets_by_row(row, family, first, second) {
                 return false;
             }
         }

@@ -2,7 +2,10 @@
 #![tactic(auto)]
 
 mod answers;
+mod cells;
 mod judging;
+mod ranks;
+mod rows;
 mod shortcuts;
 mod stepping;
 mod wholes;

@@ -118,6 +118,17 @@ pub fn three(first: Node, second: Node, third: Node) -> Drawing {
     }
 }
 
+/// The picture that docs/PICTURES.md reads aloud: a marked node, and its chain's end, to which nodes
+/// without a name lead.
+pub fn read_aloud() -> Drawing {
+    three(
+        shared(MIN, Some(1)),
+        shared(2, Some(3)).marked(),
+        shared(6, None),
+    )
+    .chained()
+}
+
 fn is_end(chain: (u8, u8), from: u8, to: u8) -> bool {
     chain.0 == from && chain.1 == to
 }

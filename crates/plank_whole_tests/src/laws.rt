@@ -1,5 +1,5 @@
 //! Which pictures are lawful.
-use crate::drawings::{Drawing, MIN, Owner, shared, three};
+use crate::drawings::{Drawing, MIN, Owner, read_aloud, shared, three};
 use crate::structures::{ENDS, LIST};
 use plank_prog::Header;
 
@@ -20,8 +20,6 @@ fn a_pointer_leads_to_a_greater_key(rt: HostRuntime) {
     assert_eq!(rt; is_lawful(&header, None, pair(6, 2)), Some(false));
 }
 
-// The picture that docs/PICTURES.md reads aloud: a marked node, and its chain's end, to which nodes
-// without a name lead.
 #[test]
 fn the_picture_that_is_read_aloud_is_lawful(rt: HostRuntime) {
     let header = LIST.header(rt.alloc()).expect(&rt, "memory");
@@ -30,7 +28,7 @@ fn the_picture_that_is_read_aloud_is_lawful(rt: HostRuntime) {
         shared(2, Some(3)).marked(),
         shared(6, None),
     );
-    let aloud = three(head, cut, last).chained();
+    let aloud = read_aloud();
     assert_eq!(rt; is_lawful(&header, Some(0), aloud), Some(true));
     // the end of the walk has another key
     assert_eq!(rt; is_lawful(&header, Some(0), aloud.in_set()), Some(false));

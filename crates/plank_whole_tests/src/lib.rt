@@ -7,6 +7,12 @@ mod drawings;
 #[cfg(test)]
 mod laws;
 #[cfg(test)]
+mod moves;
+#[cfg(test)]
+mod steps;
+#[cfg(test)]
 mod structures;
+#[cfg(test)]
+mod turns;
 #[cfg(test)]
 mod walks;

@@ -10,11 +10,11 @@ use Rattle.plank_whole.proofs.wholes.Picture.meets_by_second.Goals as goal
 pub loop-second-preserved : goal.loop-second-preserved
 loop-second-preserved c =
     all_joined_more (meets c.args.self.now) (rules_by_third (frame_of c.args.self.now) c.args.family c.args.first) c.loop-second.second
-    (sym c.meets_by_third.ensures ∙ c.if-not-meets_by_third.false) c.loop-second.invariant
+    (sym c.meets_by_row.ensures ∙ c.if-not-meets_by_row.false) c.loop-second.invariant
 
-pub returns-then-not-meets_by_third : goal.returns-then-not-meets_by_third
-returns-then-not-meets_by_third c =
+pub returns-then-not-meets_by_row : goal.returns-then-not-meets_by_row
+returns-then-not-meets_by_row c =
     let end = c.count-second-end.ensures ∙ ap (λ s. count (frame_of c.args.self.now) s.second c.args.first) c.shape_of.ensures in
     sym (one_joined_fails (meets c.args.self.now) (rules_by_third (frame_of c.args.self.now) c.args.family c.args.first)
     (count (frame_of c.args.self.now) (shape_of c.args.family).second c.args.first) c.loop-second.second (omega (arith, end))
-    (sym c.meets_by_third.ensures ∙ c.if-not-meets_by_third.true))
+    (sym c.meets_by_row.ensures ∙ c.if-not-meets_by_row.true))

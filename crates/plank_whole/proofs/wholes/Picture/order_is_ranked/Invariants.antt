@@ -1,7 +1,7 @@
 use Rattle.std.proofs.Common.{◌≡◌, true}
 use Rattle.plank_lawful.specs.Asked.{all_below}
 use Rattle.plank_whole.specs.Wholes.{frame_of, shown}
-use Rattle.plank_whole.specs.Shortcuts.{row_is_ranked}
+use Rattle.plank_whole.specs.Ranks.{row_is_ranked}
 use Rattle.plank_whole.proofs.wholes.Picture.order_is_ranked.Given as goal
 
 -- the rows of the terms below are ranked

@@ -2,7 +2,7 @@
 use Rattle.std.proofs.Common.{sym, ◌∙◌, arith}
 use Rattle.plank_lawful.proofs.Asked.{one_fails}
 use Rattle.plank_whole.specs.Wholes.{frame_of, shown}
-use Rattle.plank_whole.specs.Shortcuts.{is_ranked, term_count}
+use Rattle.plank_whole.specs.Ranks.{is_ranked, term_count}
 use Rattle.plank_whole.proofs.wholes.Picture.row_is_ranked.Goals as goal
 
 pub returns-then-not-is_ranked : goal.returns-then-not-is_ranked

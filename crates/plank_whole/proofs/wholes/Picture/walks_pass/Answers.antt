@@ -1,11 +1,11 @@
 -- Of a stop node that no chain has nothing is asked.
-use Rattle.std.proofs.Common.{◌≡◌, true, sym, ◌∙◌, ap, subst}
+use Rattle.std.proofs.Common.{◌≡◌, true, sym, ◌∙◌, subst}
 use Rattle.std.specs.List.{list_all}
 use Rattle.plank_lawful.specs.declared.families.Family.{Family}
 use Rattle.plank_whole.specs.Wholes.{frame_of}
 use Rattle.plank_whole.specs.Judging.{meets}
 use Rattle.plank_lawful.specs.Lists.{rules_by_third}
-use Rattle.plank_whole.proofs.Passing.{of_index, stops_pass}
+use Rattle.plank_whole.proofs.Unpicked.{of_index, stops_pass}
 use Rattle.plank_whole.proofs.wholes.Picture.walks_pass.Goals as goal
 
 pub returns-in-Stops : goal.returns-in-Stops
