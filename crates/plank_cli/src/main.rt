@@ -27,20 +27,22 @@ fn arguments(rt: &HostRuntime) -> Result<Vec<String>, Status> {
         .map_err(|_| Status::OutOfMemory)
 }
 
-fn run(rt: &HostRuntime) -> Status {
-    let arguments = match arguments(rt) {
-        Ok(arguments) => arguments,
-        Err(status) => return status,
-    };
-    let words = match arguments.as_slice() {
+/// The words of a command line, after the program's name.
+fn words(arguments: &[String]) -> &[String] {
+    match arguments {
         [_program, words @ ..] => words,
         [] => &[],
-    };
-    let mut source = ReaderSource::new(rt.stdin());
-    let mut sink = WriterSink::new(rt.stdout());
-    top(rt, rt.alloc(), words, &mut source, &mut sink, &OpenGate)
+    }
 }
 
 fn main(rt: HostRuntime) -> ExitCode {
-    ExitCode::from(run(&rt).exit())
+    let arguments = match arguments(&rt) {
+        Ok(arguments) => arguments,
+        Err(status) => return ExitCode::from(status.exit()),
+    };
+    let mut source = ReaderSource::new(rt.stdin());
+    let mut sink = WriterSink::new(rt.stdout());
+    let words = words(&arguments);
+    let status = top(&rt, rt.alloc(), words, &mut source, &mut sink, &OpenGate);
+    ExitCode::from(status.exit())
 }

@@ -2,9 +2,11 @@
 ghost use Rattle.std.specs.Prelude.{◌≤◌};
 
 use plank_base::OutOfMemory;
-use plank_io::{MemSink, MemSource, OpenGate};
+use plank_io::{Gate, MemSink, MemSource, OpenGate};
 use plank_top::{Status, top};
 use std::alloc::Global;
+use std::marker::Sync;
+use std::thread::Threads;
 
 /// A structure of one node whose one method answers false.
 pub(crate) const ONE: &[u8] =
@@ -25,19 +27,21 @@ pub(crate) struct Outside<'a> {
     ghost writes: { 1 ≤ write_most },
 }
 
-const PLAIN: Outside<'static> = Outside {
+pub(crate) const PLAIN: Outside<'static> = Outside {
     read_most: 4096,
     read_fails: &[],
     write_most: 4096,
     write_fails: &[],
 };
 
-/// What the call answers to the words and the text, and what it writes.
-pub(crate) fn called(
+/// What the call answers to the words and the text, where the workers pass this gate, and what it writes.
+pub(crate) fn called_by<R: Threads + Sync, G: Gate>(
+    rt: &R,
     alloc: Global,
     words: &[&str],
     text: &[u8],
     outside: &Outside<'_>,
+    gate: &G,
 ) -> Result<(Status, Vec<u8>), OutOfMemory> {
     let mut owned = Vec::new(alloc);
     for word in words {
@@ -45,42 +49,67 @@ pub(crate) fn called(
     }
     let mut source = MemSource::new(alloc, text, outside.read_most, outside.read_fails)?;
     let mut sink = MemSink::new(alloc, 32_768, outside.write_most, outside.write_fails)?;
-    let status = top(&(), alloc, &owned, &mut source, &mut sink, &OpenGate);
+    let status = top(rt, alloc, &owned, &mut source, &mut sink, gate);
     let taken = Vec::from_slice(alloc, sink.taken())?;
     Ok((status, taken))
 }
 
+/// What the call answers to the words and the text, and what it writes.
+pub(crate) fn called<R: Threads + Sync>(
+    rt: &R,
+    alloc: Global,
+    words: &[&str],
+    text: &[u8],
+    outside: &Outside<'_>,
+) -> Result<(Status, Vec<u8>), OutOfMemory> {
+    called_by(rt, alloc, words, text, outside, &OpenGate)
+}
+
+/// The status with which the call ends.
+pub(crate) fn status_of<R: Threads + Sync>(
+    rt: &R,
+    alloc: Global,
+    words: &[&str],
+    text: &[u8],
+) -> Result<Status, OutOfMemory> {
+    let (status, _) = called(rt, alloc, words, text, &PLAIN)?;
+    Ok(status)
+}
+
 /// Whether the call writes this.
-pub(crate) fn writes(
+pub(crate) fn writes<R: Threads + Sync>(
+    rt: &R,
     alloc: Global,
     words: &[&str],
     text: &[u8],
     output: &[u8],
 ) -> Result<bool, OutOfMemory> {
-    let (_, taken) = called(alloc, words, text, &PLAIN)?;
+    let (_, taken) = called(rt, alloc, words, text, &PLAIN)?;
     Ok(taken.as_slice() == output)
 }
 
 /// Whether the report on the text begins so and ends so.
-pub(crate) fn reports(
+pub(crate) fn reports<R: Threads + Sync>(
+    rt: &R,
     alloc: Global,
     text: &[u8],
     first: &[u8],
     last: &[u8],
 ) -> Result<bool, OutOfMemory> {
-    let (_, taken) = called(alloc, &["verify"], text, &PLAIN)?;
+    let (_, taken) = called(rt, alloc, &["verify"], text, &PLAIN)?;
     let report = taken.as_slice();
     Ok(report.starts_with(first) && report.ends_with(last))
 }
 
 /// Whether the call answers this status and writes this.
-pub(crate) fn answers(
+pub(crate) fn answers<R: Threads + Sync>(
+    rt: &R,
     alloc: Global,
     words: &[&str],
     text: &[u8],
     status: Status,
     output: &[u8],
 ) -> Result<bool, OutOfMemory> {
-    let (ended, taken) = called(alloc, words, text, &PLAIN)?;
+    let (ended, taken) = called(rt, alloc, words, text, &PLAIN)?;
     Ok(ended == status && taken.as_slice() == output)
 }

@@ -11,7 +11,7 @@ const ONE_TRUE: &[u8] =
 #[test]
 fn a_method_that_finds_nothing_in_an_empty_set_is_accepted(rt: HostRuntime) {
     let output = b"structure one\neffects 0\naccepted\n";
-    assert!(rt; answers(rt.alloc(), &["verify"], ONE, Status::Accepted, output) == Ok(true));
+    assert!(rt; answers(&rt, rt.alloc(), &["verify"], ONE, Status::Accepted, output) == Ok(true));
 }
 
 #[test]
@@ -28,7 +28,7 @@ fn an_answer_without_cause_is_rejected_at_its_return(rt: HostRuntime) {
         place,
     });
     let output = b"structure one\neffects 0\nrejected answer in contains at 5:22\n";
-    assert!(rt; answers(rt.alloc(), &["verify"], ONE_TRUE, answer, output) == Ok(true));
+    assert!(rt; answers(&rt, rt.alloc(), &["verify"], ONE_TRUE, answer, output) == Ok(true));
 }
 
 #[test]
@@ -36,7 +36,7 @@ fn words_that_name_no_command_are_refused(rt: HostRuntime) {
     let cases: [&[&str]; 4] = [&[], &["prove"], &["verify", "x"], &["effects", "effects"]];
     for words in cases {
         let output = b"usage fault\n";
-        assert!(rt; answers(rt.alloc(), words, ONE, Status::Usage, output) == Ok(true));
+        assert!(rt; answers(&rt, rt.alloc(), words, ONE, Status::Usage, output) == Ok(true));
     }
 }
 
@@ -54,7 +54,16 @@ fn filled_up(alloc: Global, text: &[u8], length: usize) -> Result<Vec<u8>, OutOf
 fn a_text_may_have_so_many_bytes(rt: HostRuntime) {
     let text = filled_up(rt.alloc(), ONE, 131_072).expect(&rt, "memory");
     let output = b"structure one\neffects 0\naccepted\n";
-    assert!(rt; answers(rt.alloc(), &["verify"], &text, Status::Accepted, output) == Ok(true));
+    assert!(rt;
+        answers(
+            &rt,
+            rt.alloc(),
+            &["verify"],
+            &text,
+            Status::Accepted,
+            output
+        ) == Ok(true)
+    );
 }
 
 #[test]
@@ -62,7 +71,7 @@ fn a_text_of_one_byte_more_is_too_large(rt: HostRuntime) {
     let text = filled_up(rt.alloc(), ONE, 131_073).expect(&rt, "memory");
     let too_large = Status::TooLarge(Thing::Bytes, 131_073, 131_072);
     let output = b"too large bytes 131073 131072\n";
-    assert!(rt; answers(rt.alloc(), &["verify"], &text, too_large, output) == Ok(true));
+    assert!(rt; answers(&rt, rt.alloc(), &["verify"], &text, too_large, output) == Ok(true));
 }
 
 #[test]
@@ -73,7 +82,9 @@ fn a_source_that_fails_is_a_read_fault_and_nothing_is_written(rt: HostRuntime) {
         write_most: 4096,
         write_fails: &[],
     };
-    let (status, taken) = called(rt.alloc(), &["verify"], ENDS, &outside).expect(&rt, "memory");
+    let (status, taken) = called(&rt, rt.alloc(), &["verify"], ENDS, &outside).expect(
+        &rt, "memory",
+    );
     assert_eq!(rt; status, Status::ReadFault);
     assert!(rt; taken.is_empty());
 }
@@ -94,7 +105,9 @@ fn a_sink_that_fails_is_a_write_fault_and_keeps_what_it_took(rt: HostRuntime) {
         write_fails: &[3],
     };
     for (command, cut) in CUT {
-        let (status, taken) = called(rt.alloc(), &[command], ONE, &outside).expect(&rt, "memory");
+        let (status, taken) = called(&rt, rt.alloc(), &[command], ONE, &outside).expect(
+            &rt, "memory",
+        );
         assert_eq!(rt; status, Status::WriteFault);
         assert!(rt; taken.as_slice() == cut);
     }

@@ -6,6 +6,8 @@ mod calls;
 #[cfg(test)]
 mod endings;
 #[cfg(test)]
+mod large;
+#[cfg(test)]
 mod limits;
 #[cfg(test)]
 mod programs;
@@ -16,6 +18,12 @@ mod structures;
 #[cfg(test)]
 mod tokens;
 #[cfg(test)]
+mod traces;
+#[cfg(test)]
 mod typing;
 #[cfg(test)]
 mod verdicts;
+#[cfg(test)]
+mod words;
+#[cfg(test)]
+mod workers;

@@ -2,6 +2,8 @@
 use crate::calls::{reports, writes};
 use plank_base::OutOfMemory;
 use std::alloc::Global;
+use std::marker::Sync;
+use std::thread::Threads;
 
 /// A text that has one part several times, and what is said of it.
 struct Case {
@@ -126,19 +128,19 @@ const CASES: [Case; 15] = [
     },
 ];
 
-fn is_said(alloc: Global, case: &Case) -> Result<bool, OutOfMemory> {
+fn is_said<R: Threads + Sync>(rt: &R, alloc: Global, case: &Case) -> Result<bool, OutOfMemory> {
     let mut text = Vec::from_slice(alloc, case.before)?;
     for _ in 0..case.times {
         text.extend_from_slice(case.part)?;
     }
     text.extend_from_slice(case.after)?;
-    writes(alloc, &["verify"], &text, case.output)
+    writes(rt, alloc, &["verify"], &text, case.output)
 }
 
 #[test]
 fn structures_above_a_limit_are_too_large(rt: HostRuntime) {
     for case in &CASES {
-        assert!(rt; is_said(rt.alloc(), case) == Ok(true));
+        assert!(rt; is_said(&rt, rt.alloc(), case) == Ok(true));
     }
 }
 
@@ -147,5 +149,5 @@ fn an_effect_may_have_so_many_facts(rt: HostRuntime) {
     let text =
         b"structure one;\nflag a; flag b; flag c; flag d; flag e; ptr l free; ptr r free;\nlock;\nroot a;\nstart a { key = MIN; }\nholds false;\nmethod contains(k) { var v1, v2, v3, v4, v5, v6, v7; atomic { with v1, v2, v3, v4, v5, v6, v7; write root.l = null; } return false; }\n";
     let first = b"structure one\neffects 1\n";
-    assert!(rt; reports(rt.alloc(), text, first, b"\naccepted\n") == Ok(true));
+    assert!(rt; reports(&rt, rt.alloc(), text, first, b"\naccepted\n") == Ok(true));
 }

@@ -36,7 +36,8 @@ fn step_of(location: &Location) -> Step {
     }
 }
 
-fn program_of(alloc: Global, text: &[u8]) -> Option<Program> {
+/// The program of a text, where it is in order.
+pub(crate) fn program_of(alloc: Global, text: &[u8]) -> Option<Program> {
     if text.len() > BYTES_LIMIT as usize {
         return None;
     }

@@ -41,8 +41,8 @@ fn cut(text: &[u8], length: usize) -> &[u8] {
 fn cut_texts_are_malformed_at_their_end(rt: HostRuntime) {
     for (length, output) in CUTS {
         let text = cut(ONE, length);
-        assert!(rt; writes(rt.alloc(), &["verify"], text, output) == Ok(true));
-        assert!(rt; writes(rt.alloc(), &["print"], text, output) == Ok(true));
+        assert!(rt; writes(&rt, rt.alloc(), &["verify"], text, output) == Ok(true));
+        assert!(rt; writes(&rt, rt.alloc(), &["print"], text, output) == Ok(true));
     }
 }
 
@@ -179,8 +179,8 @@ const MALFORMED: [(&[u8], &[u8]); 45] = [
 #[test]
 fn malformed_texts_tell_the_first_place_that_shows_it(rt: HostRuntime) {
     for (text, output) in MALFORMED {
-        assert!(rt; writes(rt.alloc(), &["verify"], text, output) == Ok(true));
-        assert!(rt; writes(rt.alloc(), &["print"], text, output) == Ok(true));
+        assert!(rt; writes(&rt, rt.alloc(), &["verify"], text, output) == Ok(true));
+        assert!(rt; writes(&rt, rt.alloc(), &["print"], text, output) == Ok(true));
     }
 }
 
@@ -207,7 +207,7 @@ const NESTED: [(&[u8], &[u8]); 4] = [
 #[test]
 fn no_more_than_32_brackets_are_open_at_once(rt: HostRuntime) {
     for (text, output) in NESTED {
-        assert!(rt; writes(rt.alloc(), &["verify"], text, output) == Ok(true));
+        assert!(rt; writes(&rt, rt.alloc(), &["verify"], text, output) == Ok(true));
     }
 }
 
@@ -234,7 +234,7 @@ const PRINTS: [(&[u8], &[u8]); 4] = [
 #[test]
 fn prints_are_canonical_and_print_as_themselves(rt: HostRuntime) {
     for (text, output) in PRINTS {
-        assert!(rt; writes(rt.alloc(), &["print"], text, output) == Ok(true));
-        assert!(rt; writes(rt.alloc(), &["print"], output, output) == Ok(true));
+        assert!(rt; writes(&rt, rt.alloc(), &["print"], text, output) == Ok(true));
+        assert!(rt; writes(&rt, rt.alloc(), &["print"], output, output) == Ok(true));
     }
 }

@@ -15,7 +15,7 @@ const LOST: &[u8] =
     b"structure lost;\nptr next asc;\nroot head;\nstart head { key = MIN; next = tail; }\nstart tail { key = MAX; }\nedge next : x.key < j;\nholds x.key == j;\nkeep linked : x.key == MAX || x.next != null;\nmethod insert(k) {\n  var p, c, n;\n  p = root;\n  c = p.next;\n  while (c.key < k) {\n    p = c;\n    c = p.next;\n  }\n  if (k < c.key) {\n    n = new;\n    atomic { write n.next = c; }\n    atomic { write p.next = n; }\n    return true;\n  }\n  return false;\n}\n";
 
 /// A method of upkeep that puts every key in.
-const LAMP: &[u8] =
+pub(crate) const LAMP: &[u8] =
     b"structure lamp;\nflag up;\nroot a;\nstart a { key = MIN; }\nholds x.up;\nmethod light as upkeep(k) { atomic { write root.up = true; } return true; }\n";
 
 /// A set with runs that no set explains: a node is unlinked and forgotten in one step.
@@ -25,7 +25,7 @@ const STALE_SLOT: &[u8] =
 #[test]
 fn a_list_that_is_only_read_is_accepted(rt: HostRuntime) {
     let output = b"structure ends\neffects 0\naccepted\n";
-    assert!(rt; writes(rt.alloc(), &["verify"], ENDS, output) == Ok(true));
+    assert!(rt; writes(&rt, rt.alloc(), &["verify"], ENDS, output) == Ok(true));
 }
 
 /// The same without the keep that says where pointers lead.
@@ -35,40 +35,40 @@ const UNLINKED: &[u8] =
 #[test]
 fn a_walk_that_may_come_to_null_is_rejected(rt: HostRuntime) {
     let output = b"structure ends\neffects 0\nrejected null in contains at 12:3\n";
-    assert!(rt; writes(rt.alloc(), &["verify"], UNLINKED, output) == Ok(true));
+    assert!(rt; writes(&rt, rt.alloc(), &["verify"], UNLINKED, output) == Ok(true));
 }
 
 #[test]
 fn a_read_of_null_is_rejected(rt: HostRuntime) {
     let output = b"structure gap\neffects 0\nrejected null in contains at 7:3\n";
-    assert!(rt; writes(rt.alloc(), &["verify"], GAP, output) == Ok(true));
+    assert!(rt; writes(&rt, rt.alloc(), &["verify"], GAP, output) == Ok(true));
 }
 
 #[test]
 fn a_lost_insert_is_rejected(rt: HostRuntime) {
     let output =
         b"structure lost\neffects 2\neffect 1 insert 19:5\n  write n.next = c;\n  c != n\n  c != null\n  n != null\n  n.key < c.key\n  n.key <= c.key\n  n.key <= k\n  k < c.key\n  k <= c.key\n  k <= n.key\n  MIN < c.key\n  MIN < n.key\n  n.key < MAX\n  n.next == null\n  n owned\n  c shared\neffect 2 insert 20:5\n  write p.next = n;\n  p != n\n  p != null\n  n != null\n  p.key < n.key\n  p.key <= n.key\n  p.key < k\n  p.key <= k\n  n.key <= k\n  k <= n.key\n  MIN < n.key\n  p.key < MAX\n  n.key < MAX\n  n owned\n  p shared\nrejected footprint in insert at 20:5\n";
-    assert!(rt; writes(rt.alloc(), &["verify"], LOST, output) == Ok(true));
+    assert!(rt; writes(&rt, rt.alloc(), &["verify"], LOST, output) == Ok(true));
 }
 
 #[test]
 fn an_upkeep_that_changes_the_set_is_rejected(rt: HostRuntime) {
     let output =
         b"structure lamp\neffects 1\neffect 1 light 6:29\n  write root.up = true;\n  root != null\n  root.key < k\n  root.key <= k\n  root.key == MIN\n  root.key < MAX\n  root shared\n  k in root\nrejected change in light at 6:29\n";
-    assert!(rt; writes(rt.alloc(), &["verify"], LAMP, output) == Ok(true));
+    assert!(rt; writes(&rt, rt.alloc(), &["verify"], LAMP, output) == Ok(true));
 }
 
 #[test]
 fn effects_are_told_without_the_verdict(rt: HostRuntime) {
     let output =
         b"structure lamp\neffects 1\neffect 1 light 6:29\n  write root.up = true;\n  root != null\n  root.key < k\n  root.key <= k\n  root.key == MIN\n  root.key < MAX\n  root shared\n  k in root\n";
-    assert!(rt; answers(rt.alloc(), &["effects"], LAMP, Status::Done, output) == Ok(true));
+    assert!(rt; answers(&rt, rt.alloc(), &["effects"], LAMP, Status::Done, output) == Ok(true));
 }
 
 #[test]
 fn a_list_that_is_only_read_has_no_effects(rt: HostRuntime) {
     let output = b"structure ends\neffects 0\n";
-    assert!(rt; answers(rt.alloc(), &["effects"], ENDS, Status::Done, output) == Ok(true));
+    assert!(rt; answers(&rt, rt.alloc(), &["effects"], ENDS, Status::Done, output) == Ok(true));
 }
 
 #[test]
@@ -76,6 +76,7 @@ fn a_node_that_is_forgotten_as_it_is_unlinked_is_looked_at(rt: HostRuntime) {
     let last = b"\nrejected keep in remove at 38:7\n";
     assert!(rt;
         reports(
+            &rt,
             rt.alloc(),
             STALE_SLOT,
             b"structure slot\neffects 10\n",
@@ -107,6 +108,6 @@ const STEPS: [(&[u8], &[u8], &[u8]); 3] = [
 #[test]
 fn steps_are_told_as_their_statements_stand(rt: HostRuntime) {
     for (text, first, last) in STEPS {
-        assert!(rt; reports(rt.alloc(), text, first, last) == Ok(true));
+        assert!(rt; reports(&rt, rt.alloc(), text, first, last) == Ok(true));
     }
 }

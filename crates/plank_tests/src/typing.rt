@@ -2,17 +2,25 @@
 use crate::calls::{reports, writes};
 use plank_base::OutOfMemory;
 use std::alloc::Global;
+use std::marker::Sync;
+use std::thread::Threads;
 
 /// A part of a text that breaks a rule, and what is said of the text.
 type Case = (&'static [u8], &'static [u8]);
 
 /// Whether a text of these three pieces is refused so.
-fn is_refused(alloc: Global, before: &[u8], case: Case, after: &[u8]) -> Result<bool, OutOfMemory> {
+fn is_refused<R: Threads + Sync>(
+    rt: &R,
+    alloc: Global,
+    before: &[u8],
+    case: Case,
+    after: &[u8],
+) -> Result<bool, OutOfMemory> {
     let (part, output) = case;
     let mut text = Vec::from_slice(alloc, before)?;
     text.extend_from_slice(part)?;
     text.extend_from_slice(after)?;
-    writes(alloc, &["verify"], &text, output)
+    writes(rt, alloc, &["verify"], &text, output)
 }
 
 /// Texts that break one rule of typing, and what is said of them.
@@ -46,7 +54,7 @@ const ILL_TYPED: [(&[u8], &[u8]); 6] = [
 #[test]
 fn each_rule_of_typing_tells_its_kind_and_place(rt: HostRuntime) {
     for (text, output) in ILL_TYPED {
-        assert!(rt; writes(rt.alloc(), &["verify"], text, output) == Ok(true));
+        assert!(rt; writes(&rt, rt.alloc(), &["verify"], text, output) == Ok(true));
     }
 }
 
@@ -149,7 +157,7 @@ fn lines_of_a_header_break_their_rules(rt: HostRuntime) {
     let before = b"structure s;\n";
     let after = b"\nholds false;\nmethod contains(k) { return false; }\n";
     for case in HEADERS {
-        assert!(rt; is_refused(rt.alloc(), before, case, after) == Ok(true));
+        assert!(rt; is_refused(&rt, rt.alloc(), before, case, after) == Ok(true));
     }
 }
 
@@ -255,7 +263,7 @@ fn conditions_of_a_header_break_their_rules(rt: HostRuntime) {
     let before = b"structure s; flag gone; ptr next asc; root h;\nstart h { key = MIN; }\n";
     let after = b"\nmethod contains(k) { return false; }\n";
     for case in CONDITIONS {
-        assert!(rt; is_refused(rt.alloc(), before, case, after) == Ok(true));
+        assert!(rt; is_refused(&rt, rt.alloc(), before, case, after) == Ok(true));
     }
 }
 
@@ -298,7 +306,7 @@ fn methods_break_their_rules(rt: HostRuntime) {
     let before = b"structure s; root h;\nstart h { key = MIN; }\nholds true;\n";
     let after = b"\n";
     for case in METHODS {
-        assert!(rt; is_refused(rt.alloc(), before, case, after) == Ok(true));
+        assert!(rt; is_refused(&rt, rt.alloc(), before, case, after) == Ok(true));
     }
 }
 
@@ -615,7 +623,7 @@ fn statements_break_their_rules(rt: HostRuntime) {
         b"structure s; flag gone; ptr next asc; root h;\nstart h { key = MIN; }\nholds true;\nmethod contains(k) { var p, c, n;\n";
     let after = b"\n}\n";
     for case in STATEMENTS {
-        assert!(rt; is_refused(rt.alloc(), before, case, after) == Ok(true));
+        assert!(rt; is_refused(&rt, rt.alloc(), before, case, after) == Ok(true));
     }
 }
 
@@ -633,7 +641,7 @@ fn statements_with_locks_break_their_rules(rt: HostRuntime) {
         b"structure s; flag gone; ptr next asc; lock; root h;\nstart h { key = MIN; }\nholds true;\nmethod contains(k) { var p, c, n;\n";
     let after = b"\n}\n";
     for case in LOCKED {
-        assert!(rt; is_refused(rt.alloc(), before, case, after) == Ok(true));
+        assert!(rt; is_refused(&rt, rt.alloc(), before, case, after) == Ok(true));
     }
 }
 
@@ -679,7 +687,7 @@ const WELL_TYPED: [Case; 7] = [
 #[test]
 fn texts_that_break_no_rule_are_typed(rt: HostRuntime) {
     for (text, output) in WELL_TYPED {
-        assert!(rt; writes(rt.alloc(), &["verify"], text, output) == Ok(true));
+        assert!(rt; writes(&rt, rt.alloc(), &["verify"], text, output) == Ok(true));
     }
 }
 
@@ -688,5 +696,5 @@ fn all_kinds_of_statements_are_typed(rt: HostRuntime) {
     let text =
         b"structure s; flag gone; ptr next asc; lock; root h;\nstart h { key = MIN; }\nholds true;\nmethod contains(k) { var p, c, n;\nlock p; unlock root; loop { p = new; c = null; n = root; p = n; c = n.next; while (p.gone && p.key < k) { continue; } atomic { with c; test p.next == c; test !root.gone; n = root.next; write p.next = c; write p.gone = true; } else { break; } if (p == c) { return true; } else { continue; } } return false;\n}\n";
     let first = b"structure s\neffects 1\n";
-    assert!(rt; reports(rt.alloc(), text, first, b"\nrejected start\n") == Ok(true));
+    assert!(rt; reports(&rt, rt.alloc(), text, first, b"\nrejected start\n") == Ok(true));
 }

@@ -2,12 +2,14 @@
 use crate::calls::writes;
 use plank_base::OutOfMemory;
 use std::alloc::Global;
+use std::marker::Sync;
+use std::thread::Threads;
 
 /// A header, its methods, and the last line of the report on the structure of both.
 type Case = (&'static [u8], &'static [u8], &'static [u8]);
 
 /// Whether the structure that begins so has this verdict. The methods begin in its third line.
-fn has_verdict(alloc: Global, case: Case) -> Result<bool, OutOfMemory> {
+fn has_verdict<R: Threads + Sync>(rt: &R, alloc: Global, case: Case) -> Result<bool, OutOfMemory> {
     let (header, methods, last) = case;
     let mut text = Vec::from_slice(alloc, b"structure s;\n")?;
     text.extend_from_slice(header)?;
@@ -16,7 +18,7 @@ fn has_verdict(alloc: Global, case: Case) -> Result<bool, OutOfMemory> {
     let mut output = Vec::from_slice(alloc, b"structure s\neffects 0\n")?;
     output.extend_from_slice(last)?;
     output.extend_from_slice(b"\n")?;
-    writes(alloc, &["verify"], &text, &output)
+    writes(rt, alloc, &["verify"], &text, &output)
 }
 
 /// A set that stays empty.
@@ -78,7 +80,7 @@ const ANSWERS: [Case; 13] = [
 #[test]
 fn answers_of_a_set_that_stays_empty_are_judged(rt: HostRuntime) {
     for case in ANSWERS {
-        assert!(rt; has_verdict(rt.alloc(), case) == Ok(true));
+        assert!(rt; has_verdict(&rt, rt.alloc(), case) == Ok(true));
     }
 }
 
@@ -138,7 +140,7 @@ const ROOTS: [Case; 8] = [
 #[test]
 fn roots_may_be_what_the_keeps_allow(rt: HostRuntime) {
     for case in ROOTS {
-        assert!(rt; has_verdict(rt.alloc(), case) == Ok(true));
+        assert!(rt; has_verdict(&rt, rt.alloc(), case) == Ok(true));
     }
 }
 
@@ -186,7 +188,7 @@ const EDGES: [Case; 6] = [
 #[test]
 fn two_edges_of_one_key_fail(rt: HostRuntime) {
     for case in EDGES {
-        assert!(rt; has_verdict(rt.alloc(), case) == Ok(true));
+        assert!(rt; has_verdict(&rt, rt.alloc(), case) == Ok(true));
     }
 }
 
@@ -248,6 +250,6 @@ const STARTS: [Case; 10] = [
 #[test]
 fn start_nodes_keep_the_rules_of_the_header(rt: HostRuntime) {
     for case in STARTS {
-        assert!(rt; has_verdict(rt.alloc(), case) == Ok(true));
+        assert!(rt; has_verdict(&rt, rt.alloc(), case) == Ok(true));
     }
 }

@@ -10,14 +10,16 @@ use Rattle.plank_verdict.specs.Judged.{IsJudged}
 use Rattle.plank_io.specs.Whole.{GivesAll}
 use Rattle.plank_top.specs.declared.status.Status.{Status}
 use Rattle.plank_top.specs.declared.status.Status.TheVariants as status
-use Rattle.plank_top.specs.declared.words.Command.{Command}
-use Rattle.plank_top.specs.declared.words.Command.TheVariants.{Verify, Effects, Print}
+use Rattle.plank_words.specs.declared.commands.Command.{Command}
+use Rattle.plank_words.specs.declared.commands.Command.TheVariants.{Verify, Effects, Print, Trace}
 use Rattle.plank_top.specs.Trees.{IsTextOf, IsUnreadable, malformed, too_deep}
 use Rattle.plank_top.specs.declared.replies.Telling.{Telling}
-use Rattle.plank_top.specs.declared.replies.Telling.TheVariants.{Whole, WithoutVerdict}
-use Rattle.plank_top.specs.Answers.{Answer, IsJudgement, ill_typed, too_large, judged, IsJudgingAnswer, unreadable, readable, unprintable, printable, status_of}
+use Rattle.plank_top.specs.declared.replies.Telling.TheVariants.{Whole, WithoutVerdict, Summary}
+use Rattle.plank_top.specs.Answers.{Answer, IsJudgement, ill_typed, too_large, judged, IsJudgingAnswer, unreadable, readable, unprintable, printable, status_of, IsLargeAnswer}
 use Rattle.plank_top.specs.Endings.{Told, Ends, whole, write_fault, out_of_memory, Concludes, answered, unknown, Serves, whole_text, too_long, read_fault, no_memory}
 use Rattle.plank_top.specs.Commands.{Answers}
+use Rattle.plank_trace.specs.declared.lines.Line.{Line}
+use Rattle.plank_top.specs.Traced.{IsRunOf, IsScheduledAnswer, IsTraceAnswer}
 use Rattle.plank_top.specs.Soundness.{IsSound}
 
 -- the law of programs that were judged and accepted
@@ -37,6 +39,7 @@ judgement_is_sound : RunsLaw → (telling : Telling) (bytes : List ℕ) (t : Tex
 judgement_is_sound law telling bytes t answer read (ill_typed b first is) same = absurd (let wrong = ap (λ (a : Answer). a.status) is in cc)
 judgement_is_sound law telling bytes t answer read (too_large e first over is) same = absurd (let wrong = ap (λ (a : Answer). a.status) is in cc)
 judgement_is_sound law WithoutVerdict bytes t answer read (judged p typed said so is) same = absurd (let wrong = ap (λ (a : Answer). a.status) is in cc)
+judgement_is_sound law (Summary methods) bytes t answer read (judged p typed said so is) same = absurd (let wrong = ap (λ (a : Answer). a.status) is in cc)
 judgement_is_sound law Whole bytes t answer read (judged p typed said so is) same =
     let accepted = is_accepted said.verdict (sym (ap (λ (a : Answer). a.status) is) ∙ same) in
     record {
@@ -52,21 +55,52 @@ judging_is_sound : RunsLaw → (telling : Telling) (bytes : List ℕ) (answer : 
 judging_is_sound law telling bytes answer (unreadable refused why is) same = absurd (refusal_is_no_acceptance bytes refused why (sym (ap (λ (a : Answer). a.status) is) ∙ same))
 judging_is_sound law telling bytes answer (readable t read judgement) same = judgement_is_sound law telling bytes t answer read judgement same
 
+-- no run of a schedule is told as a verdict
+run_is_no_acceptance : (lines : List Line) (t : Text) (answer : Answer) → IsRunOf lines t answer → answer.status ≡ status.Accepted → ⊥
+run_is_no_acceptance lines t answer (IsRunOf.ill_typed b first is) same = let wrong = ap (λ (a : Answer). a.status) is in cc
+run_is_no_acceptance lines t answer (IsRunOf.too_large e first over is) same = let wrong = ap (λ (a : Answer). a.status) is in cc
+run_is_no_acceptance lines t answer (IsRunOf.traced p typed trace so is) same = let wrong = ap (λ (a : Answer). a.status) is in cc
+run_is_no_acceptance lines t answer (IsRunOf.bad_step p typed i so is) same = let wrong = ap (λ (a : Answer). a.status) is in cc
+
+schedule_is_no_acceptance : (lines : List Line) (text : List ℕ) (answer : Answer) → IsScheduledAnswer lines text answer → answer.status ≡ status.Accepted → ⊥
+schedule_is_no_acceptance lines text answer (IsScheduledAnswer.too_long over first is) same = let wrong = ap (λ (a : Answer). a.status) is in cc
+schedule_is_no_acceptance lines text answer (IsScheduledAnswer.unreadable within refused why is) same = refusal_is_no_acceptance text refused why (sym (ap (λ (a : Answer). a.status) is) ∙ same)
+schedule_is_no_acceptance lines text answer (IsScheduledAnswer.readable within t read run) same = run_is_no_acceptance lines t answer run same
+
+trace_is_no_acceptance : (bytes : List ℕ) (answer : Answer) → IsTraceAnswer bytes answer → answer.status ≡ status.Accepted → ⊥
+trace_is_no_acceptance bytes answer (IsTraceAnswer.bad_schedule i bad is) same = let wrong = ap (λ (a : Answer). a.status) is in cc
+trace_is_no_acceptance bytes answer (IsTraceAnswer.scheduled lines text read why) same = schedule_is_no_acceptance lines text answer why same
+
 answer_is_sound : RunsLaw → (command : Command) (bytes : List ℕ) (answer : Answer) → Answers command bytes answer → answer.status ≡ status.Accepted → IsSound bytes
 answer_is_sound law Verify bytes answer why same = judging_is_sound law Whole bytes answer why same
 answer_is_sound law Effects bytes answer why same = judging_is_sound law WithoutVerdict bytes answer why same
 answer_is_sound law Print bytes answer (unprintable refused why is) same = absurd (refusal_is_no_acceptance bytes refused why (sym (ap (λ (a : Answer). a.status) is) ∙ same))
 answer_is_sound law Print bytes answer (printable t read is) same = absurd (let wrong = ap (λ (a : Answer). a.status) is in cc)
+answer_is_sound law Trace bytes answer why same = absurd (trace_is_no_acceptance bytes answer why same)
 
 ending_is_answer : (sink : Told) (ended : Status) (answer : Answer) → Ends sink ended answer → ended ≡ status.Accepted → answer.status ≡ status.Accepted
 ending_is_answer sink ended answer (whole is taken) same = sym is ∙ same
 ending_is_answer sink ended answer (write_fault is rose n short taken) same = absurd (cc)
 ending_is_answer sink ended answer (out_of_memory is kept) same = absurd (cc)
 
-conclusion_is_sound : RunsLaw → (command : Command) (bytes : List ℕ) (sink : Told) (ended : Status) → Concludes command bytes sink ended → ended ≡ status.Accepted → IsSound bytes
+conclusion_is_sound : RunsLaw → (command : Command) (bytes : List ℕ) (sink : Told) (ended : Status) → Concludes (Answers command bytes) sink ended → ended ≡ status.Accepted → IsSound bytes
 conclusion_is_sound law command bytes sink ended (answered answer answers ends) same =
     answer_is_sound law command bytes answer answers (ending_is_answer sink ended answer ends same)
 conclusion_is_sound law command bytes sink ended (unknown is kept) same = absurd (cc)
+
+summary_is_no_acceptance : (methods : ℕ) (t : Text) (answer : Answer) → IsJudgement (Summary methods) t answer → answer.status ≡ status.Accepted → ⊥
+summary_is_no_acceptance methods t answer (ill_typed b first is) same = let wrong = ap (λ (a : Answer). a.status) is in cc
+summary_is_no_acceptance methods t answer (too_large e first over is) same = let wrong = ap (λ (a : Answer). a.status) is in cc
+summary_is_no_acceptance methods t answer (judged p typed said so is) same = let wrong = ap (λ (a : Answer). a.status) is in cc
+
+large_answer_is_no_acceptance : (methods : ℕ) (answer : Answer) → IsLargeAnswer methods answer → answer.status ≡ status.Accepted → ⊥
+large_answer_is_no_acceptance methods answer (unreadable refused why is) same = refusal_is_no_acceptance _ refused why (sym (ap (λ (a : Answer). a.status) is) ∙ same)
+large_answer_is_no_acceptance methods answer (readable t read judgement) same = summary_is_no_acceptance methods t answer judgement same
+
+-- a large text is never told to be accepted by the status
+pub large_is_no_acceptance : (methods : ℕ) (sink : Told) (ended : Status) → Concludes (IsLargeAnswer methods) sink ended → ended ≡ status.Accepted → ⊥
+large_is_no_acceptance methods sink ended (answered answer why ends) same = large_answer_is_no_acceptance methods answer why (ending_is_answer sink ended answer ends same)
+large_is_no_acceptance methods sink ended (unknown is kept) same = cc
 
 -- a call that ends with Accepted has read a sound text
 pub accepted_is_sound : RunsLaw → (command : Command) (source sink : Told) (ended : Status) → Serves command source sink ended → ended ≡ status.Accepted → (text : List ℕ) × GivesAll source.before source.after BYTES_LIMIT text × IsSound text

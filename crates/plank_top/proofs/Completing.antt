@@ -22,8 +22,8 @@ use Rattle.plank_judge.specs.declared.verdicts.Verdict.{Verdict}
 use Rattle.plank_io.specs.Whole.{GivesAll, GivesOver}
 use Rattle.plank_top.specs.declared.status.Status.{Status}
 use Rattle.plank_top.specs.declared.status.Status.TheVariants as status
-use Rattle.plank_top.specs.declared.words.Command.{Command}
-use Rattle.plank_top.specs.declared.words.Command.TheVariants.{Verify, Effects, Print}
+use Rattle.plank_words.specs.declared.commands.Command.{Command}
+use Rattle.plank_words.specs.declared.commands.Command.TheVariants.{Verify, Effects, Print, Trace}
 use Rattle.plank_top.specs.declared.replies.Telling.{Telling}
 use Rattle.plank_top.specs.declared.replies.Telling.TheVariants.{Whole, WithoutVerdict}
 use Rattle.plank_prog.specs.declared.programs.Program.{Program}
@@ -33,6 +33,10 @@ use Rattle.plank_top.specs.Answers.{Answer, IsJudgement, ill_typed, too_large, j
 use Rattle.plank_top.specs.Endings.{Told, Ends, whole, write_fault, Concludes, answered, unknown, Serves, whole_text, too_long, read_fault, no_memory}
 use Rattle.plank_top.specs.Commands.{Answers, Takes, EndsJudging, accepted, rejected, EndsDone, done, EndsOnTaken}
 use Rattle.plank_top.specs.Soundness.{IsGiven}
+use Rattle.plank_trace.specs.declared.lines.Line.{Line}
+use Rattle.plank_trace.specs.Limits.{first_overrun}
+use Rattle.plank_trace.proofs.Scheduling.{one_reading, not_bad_too}
+use Rattle.plank_top.specs.Traced.{IsRunOf, IsScheduledAnswer, IsTraceAnswer, IsRunnable, EndsTracing}
 
 -- ---- one tree
 
@@ -106,6 +110,25 @@ print_done : (bytes : List ℕ) → IsOfGrammar bytes → (answer : Answer) → 
 print_done bytes x answer (unprintable refused why is) = absurd (is_readable bytes x.text refused x.read why)
 print_done bytes x answer (printable t read is) = ap (λ (a : Answer). a.status) is
 
+-- a schedule that can be run is run
+run_ends : (lines : List Line) (t u : Text) (answer : Answer) (ended : Status) → t ≡ u → IsRunOf lines u answer → first_of (broken_rules t) ≡ None → first_excess t ≡ None → ended ≡ answer.status → EndsTracing ended
+run_ends lines t u answer ended one (IsRunOf.ill_typed b first is) typed within same = absurd (let so = ap (λ (v : Text). first_of (broken_rules v)) one in cc)
+run_ends lines t u answer ended one (IsRunOf.too_large e first over is) typed within same = absurd (let so = ap (λ (v : Text). first_excess v) one in cc)
+run_ends lines t u answer ended one (IsRunOf.traced p program trace so is) typed within same = EndsTracing.done (same ∙ ap (λ (a : Answer). a.status) is)
+run_ends lines t u answer ended one (IsRunOf.bad_step p program i so is) typed within same = EndsTracing.bad_step i (same ∙ ap (λ (a : Answer). a.status) is)
+
+scheduled_ends : (lines : List Line) (text : List ℕ) (answer : Answer) (ended : Status) → first_overrun lines ≡ None → IsInOrder text → IsScheduledAnswer lines text answer → ended ≡ answer.status → EndsTracing ended
+scheduled_ends lines text answer ended few x (IsScheduledAnswer.too_long over first is) same = absurd (cc)
+scheduled_ends lines text answer ended few x (IsScheduledAnswer.unreadable within refused why is) same = absurd (is_readable text x.text refused x.read why)
+scheduled_ends lines text answer ended few x (IsScheduledAnswer.readable within t read run) same =
+    run_ends lines x.text t answer ended (one_tree text x.text t x.read read) run x.typed.rules x.typed.limits same
+
+trace_ends : (bytes : List ℕ) (answer : Answer) (ended : Status) → IsRunnable bytes → IsTraceAnswer bytes answer → ended ≡ answer.status → EndsTracing ended
+trace_ends bytes answer ended x (IsTraceAnswer.bad_schedule i bad is) same = absurd (not_bad_too bytes x.lines x.text i x.schedule bad)
+trace_ends bytes answer ended x (IsTraceAnswer.scheduled lines text read why) same =
+    let one = one_reading bytes x.lines lines x.text text x.schedule read in
+    scheduled_ends lines text answer ended (subst (λ (ls : List Line). first_overrun ls ≡ None) one.0 x.within) (subst IsInOrder one.1 x.in_order) why same
+
 -- how a command that answered a text that it takes ends
 answered_so : (command : Command) (bytes : List ℕ) → Takes command bytes → (answer : Answer) (ended : Status) → Answers command bytes answer → ended ≡ answer.status → EndsOnTaken command ended
 answered_so Verify bytes x answer ended why same =
@@ -115,6 +138,7 @@ answered_so Effects bytes x answer ended why same =
     let told = answer_tells WithoutVerdict bytes x answer why in
     done (same ∙ ap (λ (a : Answer). a.status) told.is)
 answered_so Print bytes x answer ended why same = done (same ∙ print_done bytes x answer why)
+answered_so Trace bytes x answer ended why same = trace_ends bytes answer ended x why same
 
 -- ---- how a call ends
 
@@ -122,13 +146,14 @@ without_memory : (command : Command) (ended : Status) → ended ≡ status.OutOf
 without_memory Verify ended is = EndsJudging.no_memory is
 without_memory Effects ended is = EndsDone.no_memory is
 without_memory Print ended is = EndsDone.no_memory is
+without_memory Trace ended is = EndsTracing.no_memory is
 
 ends_so : (command : Command) (bytes : List ℕ) → Takes command bytes → (sink : Told) → (Rose sink.faults_before sink.faults_after → ⊥) → (answer : Answer) (ended : Status) → Answers command bytes answer → Ends sink ended answer → EndsOnTaken command ended
 ends_so command bytes x sink kept answer ended why (whole is taken) = answered_so command bytes x answer ended why is
 ends_so command bytes x sink kept answer ended why (write_fault is rose n short taken) = absurd (kept rose)
 ends_so command bytes x sink kept answer ended why (Ends.out_of_memory is same) = without_memory command ended is
 
-concludes_so : (command : Command) (bytes : List ℕ) → Takes command bytes → (sink : Told) → (Rose sink.faults_before sink.faults_after → ⊥) → (ended : Status) → Concludes command bytes sink ended → EndsOnTaken command ended
+concludes_so : (command : Command) (bytes : List ℕ) → Takes command bytes → (sink : Told) → (Rose sink.faults_before sink.faults_after → ⊥) → (ended : Status) → Concludes (Answers command bytes) sink ended → EndsOnTaken command ended
 concludes_so command bytes x sink kept ended (answered answer why e) = ends_so command bytes x sink kept answer ended why e
 concludes_so command bytes x sink kept ended (unknown is same) = without_memory command ended is
 
@@ -149,7 +174,7 @@ not_over before after bytes text e few gives = go after (subst (λ (o : Option (
 pub given_is_answered : (command : Command) (source sink : Told) (ended : Status) → IsGiven command source sink → Serves command source sink ended → EndsOnTaken command ended
 given_is_answered command source sink ended given (whole_text text gives concludes) =
     concludes_so command given.bytes given.taken sink given.sink_kept ended
-    (subst (λ ts. Concludes command ts sink ended) (all_given source.before source.after given.bytes text given.all gives) concludes)
+    (subst (λ ts. Concludes (Answers command ts) sink ended) (all_given source.before source.after given.bytes text given.all gives) concludes)
 given_is_answered command source sink ended given (too_long text gives e) = absurd (not_over source.before source.after given.bytes text given.all given.few gives)
 given_is_answered command source sink ended given (read_fault is rose consumed kept) = absurd (given.source_kept rose)
 given_is_answered command source sink ended given (no_memory is consumed kept) = without_memory command ended is

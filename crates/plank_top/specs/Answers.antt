@@ -19,6 +19,8 @@ use Rattle.plank_top.specs.declared.status.Status.{Status}
 use Rattle.plank_top.specs.declared.status.Status.TheVariants as status
 use Rattle.plank_report.specs.Pieces.{line}
 use Rattle.plank_report.specs.Reports.{effects_text, report_text}
+use Rattle.plank_large.specs.Summaries.{summary_text}
+use Rattle.plank_large.specs.Texts.{large_text}
 use Rattle.plank_top.specs.declared.replies.Telling.{Telling}
 use Rattle.plank_top.specs.Lines.{refusal_text}
 use Rattle.plank_top.specs.Trees.{IsTextOf, IsUnreadable}
@@ -41,10 +43,12 @@ abbrev pub status_of : Verdict → Status
 status_of Verdict.Accepted = status.Accepted
 status_of (Verdict.Rejected obligation) = status.Rejected obligation
 
--- what is told of a judged program: the report with the status of its verdict, or the report without its last line
+-- what is told of a judged program: the report with the status of its verdict, the report without its last line, or the
+-- summary of a large text
 abbrev pub told_of : Telling → Program → Judged → Answer
 told_of Telling.Whole p said = record { status = status_of said.verdict; output = report_text p said.effects said.verdict }
 told_of Telling.WithoutVerdict p said = record { status = status.Done; output = effects_text p said.effects }
+told_of (Telling.Summary methods) p said = record { status = status.Done; output = summary_text methods p said.effects said.verdict }
 
 -- A text of the grammar is refused with the first rule that it breaks, else with the first thing that it
 -- has too much of; else its program is judged.
@@ -53,10 +57,14 @@ pub data IsJudgement (telling : Telling) (t : Text) (answer : Answer) : Type 0 w
   too_large : (e : Excess) → first_of (broken_rules t) ≡ None → first_excess t ≡ Some e → answer ≡ refusal (status.TooLarge e.thing e.count e.limit) → IsJudgement telling t answer
   judged : (p : Program) → IsProgramOf t p → (said : Judged) → IsJudged p said → answer ≡ told_of telling p said → IsJudgement telling t answer
 
--- the answer of `verify`, which tells the whole report, and of `effects`
+-- the answer of `verify`, which tells the whole report, of `effects`, and to a large text
 pub data IsJudgingAnswer (telling : Telling) (bytes : List ℕ) (answer : Answer) : Type 0 where
   unreadable : (refused : Status) → IsUnreadable bytes refused → answer ≡ refusal refused → IsJudgingAnswer telling bytes answer
   readable : (t : Text) → IsTextOf bytes t → IsJudgement telling t answer → IsJudgingAnswer telling bytes answer
+
+-- the answer of `large`: the large text is judged as any other, and its summary is told
+abbrev pub IsLargeAnswer : ℕ → Answer → Type 0
+IsLargeAnswer methods answer = IsJudgingAnswer (Telling.Summary methods) (large_text methods) answer
 
 -- ---- print
 

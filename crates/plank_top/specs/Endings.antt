@@ -6,7 +6,7 @@ use Rattle.plank_io.specs.Faults.{Rose}
 use Rattle.plank_io.specs.Whole.{GivesAll, GivesOver, ConsumesUpTo}
 use Rattle.plank_top.specs.declared.status.Status.{Status}
 use Rattle.plank_top.specs.declared.status.Status.TheVariants as status
-use Rattle.plank_top.specs.declared.words.Command.{Command}
+use Rattle.plank_words.specs.declared.commands.Command.{Command}
 use Rattle.plank_top.specs.Answers.{Answer, too_many_bytes}
 use Rattle.plank_top.specs.Commands.{Answers}
 
@@ -28,17 +28,17 @@ pub data Ends (sink : Told) (ended : Status) (answer : Answer) : Type 0 where
   write_fault : ended ≡ status.WriteFault → Rose sink.faults_before sink.faults_after → (n : ℕ) → n < length answer.output → Appends sink.before sink.after (take n answer.output) → Ends sink ended answer
   out_of_memory : ended ≡ status.OutOfMemory → Keeps sink.before sink.after → Ends sink ended answer
 
--- the call ends with the command's answer to the text, or memory was refused before that was known
-pub data Concludes (command : Command) (text : List ℕ) (sink : Told) (ended : Status) : Type 0 where
-  answered : (answer : Answer) → Answers command text answer → Ends sink ended answer → Concludes command text sink ended
-  unknown : ended ≡ status.OutOfMemory → Keeps sink.before sink.after → Concludes command text sink ended
+-- the call ends with such an answer, or memory was refused before the answer was known
+pub data Concludes (IsAnswer : Answer → Type 0) (sink : Told) (ended : Status) : Type 0 where
+  answered : (answer : Answer) → IsAnswer answer → Ends sink ended answer → Concludes IsAnswer sink ended
+  unknown : ended ≡ status.OutOfMemory → Keeps sink.before sink.after → Concludes IsAnswer sink ended
 
 -- The call serves the command: it reads a whole text and ends with the answer to it; or the text is too
 -- long, and it ends with that; or the source's count of faults rose, and nothing was written; or memory
 -- was refused before the text was read, and nothing was written. It never reads past the first byte that
 -- is too many.
 pub data Serves (command : Command) (source sink : Told) (ended : Status) : Type 0 where
-  whole_text : (text : List ℕ) → GivesAll source.before source.after BYTES_LIMIT text → Concludes command text sink ended → Serves command source sink ended
+  whole_text : (text : List ℕ) → GivesAll source.before source.after BYTES_LIMIT text → Concludes (Answers command text) sink ended → Serves command source sink ended
   too_long : (text : List ℕ) → GivesOver source.before source.after BYTES_LIMIT text → Ends sink ended too_many_bytes → Serves command source sink ended
   read_fault : ended ≡ status.ReadFault → Rose source.faults_before source.faults_after → ConsumesUpTo source.before source.after BYTES_LIMIT → Keeps sink.before sink.after → Serves command source sink ended
   no_memory : ended ≡ status.OutOfMemory → ConsumesUpTo source.before source.after (BYTES_LIMIT + 1) → Keeps sink.before sink.after → Serves command source sink ended

@@ -3,7 +3,7 @@ pub mod Lines
 pub mod Trees
 pub mod Answers
 pub mod Replies
-pub mod Words
+pub mod Traced
 pub mod Commands
 pub mod Endings
 pub mod Soundness

@@ -6,8 +6,10 @@ use Rattle.plank_base.specs.declared.limits.Thing.TheVariants.{Bytes, Nesting, M
 use Rattle.plank_base.specs.declared.typing.TypeKind.{TypeKind}
 use Rattle.plank_base.specs.declared.typing.TypeKind.TheVariants.{Unknown, Twice, WrongKind, BindReused, NoReturn, NotOneRoot}
 use Rattle.plank_report.specs.Pieces.{place_text}
+use Rattle.plank_trace.specs.declared.limits.Measure.{Measure}
+use Rattle.plank_trace.specs.declared.limits.Measure.TheVariants.{Steps, Keys}
 use Rattle.plank_top.specs.declared.status.Status.{Status}
-use Rattle.plank_top.specs.declared.status.Status.TheVariants.{Accepted, Rejected, Malformed, IllTyped, TooLarge, Usage, ReadFault, WriteFault, OutOfMemory, Done}
+use Rattle.plank_top.specs.declared.status.Status.TheVariants.{Accepted, Rejected, Malformed, IllTyped, TooLarge, Usage, ReadFault, WriteFault, OutOfMemory, Done, TooLong, BadSchedule, BadStep}
 
 abbrev pub thing_word : Thing → List ℕ
 thing_word Bytes = codes "bytes"
@@ -20,6 +22,10 @@ thing_word Nodes = codes "nodes"
 thing_word Locations = codes "locations"
 thing_word Sites = codes "sites"
 thing_word EffectFacts = codes "effect-facts"
+
+abbrev pub measure_word : Measure → List ℕ
+measure_word Steps = codes "steps"
+measure_word Keys = codes "keys"
 
 abbrev pub type_word : TypeKind → List ℕ
 type_word Unknown = codes "unknown"
@@ -34,6 +40,9 @@ abbrev pub refusal_text : Status → List ℕ
 refusal_text (Malformed p) = codes "malformed at " ++ place_text p
 refusal_text (IllTyped k p) = codes "ill-typed " ++ type_word k ++ codes " at " ++ place_text p
 refusal_text (TooLarge t count limit) = codes "too large " ++ thing_word t ++ codes " " ++ decimal count ++ codes " " ++ decimal limit
+refusal_text (TooLong m count limit) = codes "too large " ++ measure_word m ++ codes " " ++ decimal count ++ codes " " ++ decimal limit
+refusal_text (BadSchedule i) = codes "bad schedule " ++ decimal i
+refusal_text (BadStep i) = codes "bad step " ++ decimal i
 refusal_text Usage = codes "usage fault"
 refusal_text Accepted = []
 refusal_text (Rejected o) = []

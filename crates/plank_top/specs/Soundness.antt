@@ -6,7 +6,7 @@ use Rattle.plank_prog.specs.declared.programs.Program.{Program}
 use Rattle.plank_type.specs.Checks.{IsProgramOf}
 use Rattle.plank_sem.specs.Runs.{AllRunsLinearizable, NoNullReads}
 use Rattle.plank_io.specs.Faults.{Rose}
-use Rattle.plank_top.specs.declared.words.Command.{Command}
+use Rattle.plank_words.specs.declared.commands.Command.{Command}
 use Rattle.plank_top.specs.Commands.{Takes}
 use Rattle.plank_top.specs.Endings.{Told}
 use Rattle.plank_top.specs.Trees.{IsTextOf}

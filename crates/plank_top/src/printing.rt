@@ -1,11 +1,12 @@
 ghost use Rattle.std.specs.Prelude.{◌≡◌, ◌++◌, OnOk, IfOk, codes};
 ghost use Rattle.std.specs.Fmt.{decimal};
 ghost use Rattle.plank_report.specs.Pieces.{place_text, line};
-ghost use Rattle.plank_top.specs.Lines.{thing_word, type_word, refusal_text};
+ghost use Rattle.plank_top.specs.Lines.{thing_word, measure_word, type_word, refusal_text};
 
 use crate::status::Status;
 use plank_base::{OutOfMemory, Place, Thing, TypeKind};
 use plank_report::{append, append_decimal, append_place};
+use plank_trace::Measure;
 use std::alloc::Global;
 
 /// The word of a thing in the line of a text that has too much of it.
@@ -26,6 +27,16 @@ pub fn thing_word(thing: Thing) -> &'static [u8]
     }
 }
 
+/// The word of a thing in the line of a schedule that has too much of it.
+pub fn measure_word(measure: Measure) -> &'static [u8]
+    ensures { result.now ≡ measure_word measure }
+{
+    match measure {
+        Measure::Steps => b"steps",
+        Measure::Keys => b"keys",
+    }
+}
+
 /// The word of a broken typing rule.
 pub fn type_word(kind: TypeKind) -> &'static [u8]
     ensures { result.now ≡ type_word kind }
@@ -43,14 +54,14 @@ pub fn type_word(kind: TypeKind) -> &'static [u8]
 fn append_too_large(
     alloc: Global,
     out: &mut Vec<u8>,
-    thing: Thing,
+    thing: &[u8],
     count: u32,
     limit: u32,
 ) -> Result<(), OutOfMemory>
-    ensures { OnOk result (out.new.items ≡ out.old.items ++ codes "too large " ++ thing_word thing ++ codes " " ++ decimal count ++ codes " " ++ decimal limit) }
+    ensures { OnOk result (out.new.items ≡ out.old.items ++ codes "too large " ++ thing.now ++ codes " " ++ decimal count ++ codes " " ++ decimal limit) }
 {
     append(out, b"too large ")?;
-    append(out, thing_word(thing))?;
+    append(out, thing)?;
     append(out, b" ")?;
     append_decimal(alloc, out, count)?;
     append(out, b" ")?;
@@ -78,6 +89,20 @@ fn append_malformed(alloc: Global, out: &mut Vec<u8>, place: Place) -> Result<()
     append_place(alloc, out, place)
 }
 
+fn append_bad_schedule(alloc: Global, out: &mut Vec<u8>, line: u32) -> Result<(), OutOfMemory>
+    ensures { OnOk result (out.new.items ≡ out.old.items ++ codes "bad schedule " ++ decimal line) }
+{
+    append(out, b"bad schedule ")?;
+    append_decimal(alloc, out, line)
+}
+
+fn append_bad_step(alloc: Global, out: &mut Vec<u8>, step: u32) -> Result<(), OutOfMemory>
+    ensures { OnOk result (out.new.items ≡ out.old.items ++ codes "bad step " ++ decimal step) }
+{
+    append(out, b"bad step ")?;
+    append_decimal(alloc, out, step)
+}
+
 /// Writes the line of a refusal without its line feed.
 fn append_refusal(alloc: Global, out: &mut Vec<u8>, status: Status) -> Result<(), OutOfMemory>
     ensures { OnOk result (out.new.items ≡ out.old.items ++ refusal_text status) }
@@ -85,7 +110,14 @@ fn append_refusal(alloc: Global, out: &mut Vec<u8>, status: Status) -> Result<()
     match status {
         Status::Malformed(place) => append_malformed(alloc, out, place),
         Status::IllTyped(kind, place) => append_ill_typed(alloc, out, kind, place),
-        Status::TooLarge(thing, count, limit) => append_too_large(alloc, out, thing, count, limit),
+        Status::TooLarge(thing, count, limit) => {
+            append_too_large(alloc, out, thing_word(thing), count, limit)
+        }
+        Status::TooLong(measure, count, limit) => {
+            append_too_large(alloc, out, measure_word(measure), count, limit)
+        }
+        Status::BadSchedule(i) => append_bad_schedule(alloc, out, i),
+        Status::BadStep(i) => append_bad_step(alloc, out, i),
         Status::Usage => append(out, b"usage fault"),
         _ => Ok(()),
     }

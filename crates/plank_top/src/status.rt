@@ -2,6 +2,7 @@ ghost use Rattle.std.specs.Prelude.{◌≡◌};
 ghost use Rattle.plank_top.specs.Statuses.{number_of, exit_of};
 
 use plank_base::{Obligation, Place, Thing, TypeKind};
+use plank_trace::Measure;
 
 /// How a call of [`top`](crate::top) ended. Each status but the three faults is answered only after
 /// its whole output was taken.
@@ -27,6 +28,13 @@ pub enum Status {
     OutOfMemory,
     /// A command that judges nothing has written its whole output.
     Done,
+    /// The schedule has more of a thing than its limit: the thing, the count, the limit.
+    TooLong(Measure, u32, u32),
+    /// This line of the schedule, from 1, is the first that is none; or the schedule ends before a line `text`, and
+    /// it is one more than the whole lines.
+    BadSchedule(u32),
+    /// This step of the schedule, from 1, is the first that its thread cannot make.
+    BadStep(u32),
 }
 
 impl Status {
@@ -45,6 +53,9 @@ impl Status {
             Status::WriteFault => 7,
             Status::OutOfMemory => 8,
             Status::Done => 9,
+            Status::TooLong(_, _, _) => 4,
+            Status::BadSchedule(_) => 12,
+            Status::BadStep(_) => 13,
         }
     }
 

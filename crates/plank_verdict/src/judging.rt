@@ -1,4 +1,4 @@
-ghost use Rattle.std.specs.Prelude.{◌≡◌, ◌+◌, ◌*◌, ◌≤◌, length, IfOk};
+ghost use Rattle.std.specs.Prelude.{◌≡◌, length, IfOk};
 ghost use Rattle.plank_bits.specs.Words.{has};
 ghost use Rattle.plank_fact.specs.Forced.{AreLeastMarks, IsValid};
 ghost use Rattle.plank_marks.specs.Marks.{mark_words};
@@ -7,14 +7,11 @@ ghost use Rattle.plank_verdict.specs.Judged.{IsJudged};
 
 use crate::effects::list_effects;
 use plank_base::OutOfMemory;
-use plank_bits::{MarkWords, Steps};
+use plank_bits::MarkWords;
 use plank_judge::{Demands, Effect, Verdict, judge};
-use plank_method::{Deciding, rounds};
 use plank_query::Oracle;
 use sqlite_items::Items;
 use std::alloc::Global;
-use std::marker::Sync;
-use std::sync::ledger::Ledger;
 
 /// What is said of a program at its least marks.
 #[derive(Debug, Drop)]
@@ -40,21 +37,4 @@ pub fn judge_at<Q: Oracle, J: Demands>(
     let effects = list_effects(alloc, oracle, demands.program(), marks)?;
     let verdict = judge(alloc, demands, marks)?;
     Ok(Judged { effects, verdict })
-}
-
-/// Judges a program: finds its least marks as one thread does, and judges it there.
-pub fn judge_program<Q: Oracle, D: Deciding + Sync, J: Demands, L: Ledger>(
-    alloc: Global,
-    oracle: &Q,
-    deciding: &D,
-    demands: &J,
-    steps: &mut Steps<L>,
-) -> Result<Judged, OutOfMemory>
-    requires { J.program demands.now ≡ D.program deciding.now }
-    ensures judged { IfOk result (IsJudged (D.program deciding.now)) }
-    ensures steps { steps.new ≤ steps.old + length (D.program deciding.now).methods
-        * (64 * mark_words (D.program deciding.now).methods + 1) }
-{
-    let marks = rounds(alloc, deciding, steps)?;
-    judge_at(alloc, oracle, demands, &marks)
 }

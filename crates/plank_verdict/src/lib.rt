@@ -7,4 +7,4 @@ mod kept;
 pub mod laws;
 
 pub use effects::list_effects;
-pub use judging::{Judged, judge_at, judge_program};
+pub use judging::{Judged, judge_at};

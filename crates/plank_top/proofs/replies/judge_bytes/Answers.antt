@@ -4,11 +4,11 @@ use Rattle.plank_top.specs.Answers.{unreadable, readable}
 use Rattle.plank_top.proofs.replies.judge_bytes.Goals as goal
 
 pub returns-in-Text : goal.returns-in-Text
-returns-in-Text c =
+returns-in-Text g c =
     let read : IsTextOf c.args.bytes.now c.in-Text.text = rw c.in-Text.is at c.in_ok-text.ensures in
     IfOk-weaker c.judge_text-reply.result _ _ (λ r h. readable c.in-Text.text read h) c.judge_text-reply.ensures
 
 pub returns-in-Refused : goal.returns-in-Refused
-returns-in-Refused c =
+returns-in-Refused g c =
     let refused = rw c.in-Refused.is at c.in_ok-text.ensures in
     IfOk-weaker c.refuse.result _ _ (λ r h. unreadable c.in-Refused.status refused h) c.refuse.ensures
