@@ -1,0 +1,8 @@
+-- The decider may be shared, by a lemma: of a whole program the check finds it too late.
+use denote.Param.Send.{sendable}
+use Rattle.plank_solve.proofs.solver.Solver.TheSendSync as solver
+use Rattle.plank_prove.proofs.Sharing.{decider}
+use Rattle.plank_prove.proofs.judged.judge.Goals as goal
+
+pub marks_by_workers-requires-sync-D : goal.marks_by_workers-requires-sync-D
+marks_by_workers-requires-sync-D g c κs within = search (sendable, decider, solver.the_sync)
