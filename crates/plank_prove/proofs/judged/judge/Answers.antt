@@ -1,4 +1,4 @@
--- The decider may be shared, by a lemma: of a whole program the check finds it too late.
+-- Threads may share the decider, by a lemma: a search through the whole program gives up at a limit.
 use denote.Param.Send.{sendable}
 use Rattle.plank_solve.proofs.solver.Solver.TheSendSync as solver
 use Rattle.plank_prove.proofs.Sharing.{decider}
