@@ -1,11 +1,11 @@
 ghost use Rattle.std.specs.Prelude.{◌*◌, ◌<◌, ◌≤◌, IfOk};
 ghost use Rattle.plank_verdict.specs.Judged.{IsJudged};
 
+use crate::crews::marks_by_workers;
 use plank_base::OutOfMemory;
 use plank_decide::Decider;
 use plank_demand::Asking;
 use plank_io::Gate;
-use plank_method::least_marks;
 use plank_prog::Program;
 use plank_solve::Solver;
 use plank_verdict::{Judged, judge_at};
@@ -13,17 +13,16 @@ use std::alloc::Global;
 use std::marker::Sync;
 use std::thread::Threads;
 
-/// Judges a program at its least marks, by questions about pictures. One thread finds the marks, whatever the number
-/// of workers: [`marks_by_workers`](crate::marks_by_workers) wants a decider that threads may share, and that they may
-/// share a program's trees of conditions is not shown yet.
+/// Judges a program at its least marks, by questions about pictures. So many workers find the marks: one in the thread
+/// of the call, several on one board, each in a thread of its own where a thread can be had.
 pub fn judge<R: Threads + Sync, G: Gate>(
-    _rt: &R,
+    rt: &R,
     alloc: Global,
     program: &Program,
-    _workers: u32,
-    _gate: &G,
+    workers: u32,
+    gate: &G,
 ) -> Result<Judged, OutOfMemory>
-    requires { (0 < _workers) × (_workers ≤ 64) }
+    requires { (0 < workers) × (workers ≤ 64) }
     ensures { IfOk result (IsJudged program.now) }
 {
     let oracle = Solver;
@@ -35,6 +34,6 @@ pub fn judge<R: Threads + Sync, G: Gate>(
         oracle: &oracle,
         program,
     };
-    let marks = least_marks(alloc, &deciding)?;
+    let marks = marks_by_workers(rt, alloc, &deciding, workers, gate)?;
     judge_at(alloc, &oracle, &demands, &marks)
 }

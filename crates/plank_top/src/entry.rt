@@ -125,7 +125,8 @@ fn tell_large<R: Threads + Sync, G: Gate, K: Sink>(
 ///
 /// The words are those of a command line without the program's name. At most 131,073 bytes are read, in
 /// pieces of at most 4,096, and nothing is written before the whole output is made. Where memory is
-/// refused, nothing was written. One thread judges, whatever the number of workers, and no gate is passed as yet.
+/// refused, nothing was written. One worker judges in the thread of the call. Of several, each finds marks in a
+/// thread of its own where one can be had, and passes the gate before it runs a method.
 pub fn top<R: Threads + Sync, S: Source, K: Sink, G: Gate>(
     rt: &R,
     alloc: Global,
