@@ -7,6 +7,7 @@ use plank_pic::{KeyName, Part, Place, Term};
 /// One more than the greatest code of a part of a small frame.
 pub const CODES: usize = 8704;
 
+#[inline(always)]
 fn key_digit(key: KeyName) -> usize
     ensures number { result ≡ codes.key_digit key }
     ensures below { result < 3 }
@@ -18,6 +19,7 @@ fn key_digit(key: KeyName) -> usize
     }
 }
 
+#[inline(always)]
 fn stop_digit(key: KeyName, slot: u8) -> usize
     ensures number { result ≡ codes.stop_digit key slot }
     ensures below { result < 300 }
@@ -25,6 +27,7 @@ fn stop_digit(key: KeyName, slot: u8) -> usize
     2 * key_digit(key) + slot as usize
 }
 
+#[inline(always)]
 fn place_digit(at: Place) -> usize
     ensures number { result ≡ codes.place_digit at }
     ensures below { result < 5000 }
@@ -32,6 +35,7 @@ fn place_digit(at: Place) -> usize
     at.pointer as usize * 16 + at.name as usize
 }
 
+#[inline(always)]
 fn term_kind(term: Term) -> usize
     ensures number { result ≡ codes.term_kind term }
     ensures below { result < 2 }
@@ -42,6 +46,7 @@ fn term_kind(term: Term) -> usize
     }
 }
 
+#[inline(always)]
 fn term_digit(term: Term) -> usize
     ensures number { result ≡ codes.term_digit term }
     ensures below { result < 400 }
@@ -55,6 +60,7 @@ fn term_digit(term: Term) -> usize
     }
 }
 
+#[inline(always)]
 fn code_of(kind: usize, a: usize, b: usize) -> usize
     requires kind { kind < 10_000 }
     requires a { a < 10_000 }
@@ -65,6 +71,7 @@ fn code_of(kind: usize, a: usize, b: usize) -> usize
 }
 
 /// The code of a part.
+#[inline(always)]
 pub fn part_code(part: Part) -> usize
     ensures { result ≡ codes.part_code part }
 {

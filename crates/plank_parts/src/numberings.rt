@@ -48,6 +48,7 @@ impl<'a> Numbering<'a> {
     }
 
     /// The structure, the names and the root.
+    #[inline(always)]
     pub fn shape(&self) -> Shape<'a>
         ensures { frame_of result ≡ self.now.frame }
     {
@@ -55,6 +56,7 @@ impl<'a> Numbering<'a> {
     }
 
     /// How many numbers parts have.
+    #[inline(always)]
     pub fn len(&self) -> usize
         ensures { result ≡ length self.now.table.parts }
     {
@@ -62,6 +64,7 @@ impl<'a> Numbering<'a> {
     }
 
     /// What a number is of.
+    #[inline(always)]
     pub fn at(&self, number: usize) -> Option<Numbered>
         ensures { result ≡ slice_get self.now.table.parts number }
     {
@@ -69,6 +72,7 @@ impl<'a> Numbering<'a> {
     }
 
     /// The number of a part of the picture before or after.
+    #[inline(always)]
     pub fn number(&self, side: Side, part: Part) -> usize
         ensures { result ≡ number self.now.table side part }
     {
@@ -83,6 +87,7 @@ impl<'a> Numbering<'a> {
     }
 
     /// Whether a part is one of the frame's.
+    #[inline(always)]
     pub fn fits(&self, part: Part) -> bool
         ensures { result ≡ part_fits self.now.frame part }
     {

@@ -22,6 +22,7 @@ impl<'a> Shape<'a> {
     ghost use Rattle.plank_parts.specs.Shapes.{frame_of};
 
     // How many stop nodes a key may have.
+    #[inline(always)]
     fn slots(&self) -> u8
         ensures { result ≡ slot_count (frame_of self.now) }
     {
@@ -32,24 +33,28 @@ impl<'a> Shape<'a> {
         }
     }
 
+    #[inline(always)]
     fn flag_fits(&self, flag: u8) -> bool
         ensures { result ≡ nat_lt flag (length (frame_of self.now).header.flags) }
     {
         (flag as usize) < self.header.flags.len()
     }
 
+    #[inline(always)]
     fn lock_fits(&self, name: u8) -> bool
         ensures { result ≡ lock_fits (frame_of self.now) name }
     {
         name < self.names && self.header.has_lock
     }
 
+    #[inline(always)]
     fn place_fits(&self, at: Place) -> bool
         ensures { result ≡ place_fits (frame_of self.now) at }
     {
         at.name < self.names && (at.pointer as usize) < self.header.pointers.len()
     }
 
+    #[inline(always)]
     fn term_fits(&self, term: Term) -> bool
         ensures { result ≡ term_fits (frame_of self.now) term }
     {
@@ -61,6 +66,7 @@ impl<'a> Shape<'a> {
     }
 
     /// Whether a part is one of the frame's.
+    #[inline(always)]
     pub fn fits(&self, part: Part) -> bool
         ensures { result ≡ part_fits (frame_of self.now) part }
     {

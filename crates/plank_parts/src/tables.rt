@@ -43,6 +43,7 @@ impl Table {
     }
 
     /// How many numbers there are.
+    #[inline(always)]
     pub(crate) fn len(&self) -> usize
         ensures { result ≡ length self.now.parts }
     {
@@ -50,6 +51,7 @@ impl Table {
     }
 
     /// What a number is of.
+    #[inline(always)]
     pub(crate) fn at(&self, number: usize) -> Option<Numbered>
         ensures { result ≡ slice_get self.now.parts number }
     {
@@ -57,6 +59,7 @@ impl Table {
     }
 
     /// The number of a part of the picture before or after.
+    #[inline(always)]
     pub(crate) fn number(&self, side: Side, part: Part) -> usize
         ensures { result ≡ number self.now side part }
     {
@@ -95,6 +98,7 @@ impl Table {
     }
 }
 
+#[inline(always)]
 fn read(numbers: &[u16], code: usize) -> usize
     ensures { result ≡ slice_index_or numbers.now code 0 }
 {

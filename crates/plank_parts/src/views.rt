@@ -27,22 +27,27 @@ impl<'n, 's, 'v> Reader for View<'n, 's, 'v> {
 
     type Log = Reads;
 
+    #[inline(always)]
     fn header(&self) -> &Header {
         self.numbering.shape().header
     }
 
+    #[inline(always)]
     fn names(&self) -> u8 {
         self.numbering.shape().names
     }
 
+    #[inline(always)]
     fn pointers(&self) -> u8 {
         self.numbering.shape().header.pointers.len() as u8
     }
 
+    #[inline(always)]
     fn root(&self) -> Option<u8> {
         self.numbering.shape().root
     }
 
+    #[inline(always)]
     fn says(&self, part: Part, log: &mut Reads) -> Result<bool, usize> {
         if !self.numbering.fits(part) {
             return Ok(false);

@@ -42,6 +42,7 @@ impl Values {
     }
 
     /// How many parts there are.
+    #[inline(always)]
     pub fn len(&self) -> usize
         ensures { result ≡ length self.now }
     {
@@ -49,6 +50,7 @@ impl Values {
     }
 
     /// The value of a part, None where it is open, without a note of the reading.
+    #[inline(always)]
     pub fn get(&self, part: usize) -> Option<bool>
         ensures { result ≡ value_at self.now part }
     {
@@ -60,6 +62,7 @@ impl Values {
     }
 
     /// Gives an open part a value.
+    #[inline(always)]
     pub fn put(&mut self, part: usize, value: bool)
         requires { IsOpen self.old part }
         ensures written { self.new ≡ with_value self.old part value }
@@ -69,6 +72,7 @@ impl Values {
     }
 
     /// Gives an open part a value for a probe: nothing is propagated from it.
+    #[inline(always)]
     pub(crate) fn suppose(&mut self, part: usize, value: bool)
         requires { IsOpen self.old part }
         ensures written { self.new ≡ with_value self.old part value }
@@ -79,6 +83,7 @@ impl Values {
     }
 
     /// Takes a value back.
+    #[inline(always)]
     pub(crate) fn reopen(&mut self, part: usize)
         ensures { self.new ≡ slice_set self.old part None }
     {
@@ -163,6 +168,7 @@ impl Reads {
     }
 
     /// The value of a part, None where it is open; notes the part.
+    #[inline(always)]
     pub fn read(&mut self, values: &Values, part: usize) -> Option<bool>
         ensures { result ≡ value_at values.now part }
     {
@@ -175,6 +181,7 @@ impl Reads {
 
     /// Forgets what was read. A closure that answers a conflict may call it before it reads the
     /// parts that conflict.
+    #[inline(always)]
     pub fn clear(&mut self) {
         self.count = 0;
     }
