@@ -7,12 +7,13 @@ ghost use Rattle.plank_board.specs.Rule.{AreForced};
 ghost use Rattle.plank_board.specs.Seats.{Sits};
 ghost use Rattle.plank_board.specs.Words.{mark_word};
 
+use crate::forcings::Forcing;
 use crate::names::Named;
 use crate::seats::Seat;
 use crate::table::{Joins, Splits, Words};
 use atomic_table::Closed;
 use plank_base::OutOfMemory;
-use plank_bits::{Forcing, MarkWords};
+use plank_bits::MarkWords;
 use std::alloc::Global;
 use std::marker::{Model, PhantomData};
 

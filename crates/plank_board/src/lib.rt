@@ -4,6 +4,7 @@
 mod answers;
 mod boards;
 mod events;
+mod forcings;
 mod laws;
 mod looks;
 mod names;
@@ -15,6 +16,7 @@ mod views;
 
 pub use answers::{Posted, Quiet};
 pub use boards::Board;
+pub use forcings::Forcing;
 pub use laws::{least_law, rule_law};
 pub use names::Named;
 pub use seats::Seat;

@@ -2,9 +2,8 @@ ghost use Rattle.std.specs.Prelude.{◌≡◌, ℕ, ◌+◌, ◌*◌, ◌<◌, �
 ghost use Rattle.plank_bits.specs.Words.{has};
 ghost use Rattle.plank_bits.specs.Forced.{IsMonotone, IsBounded};
 
-use crate::counting::Steps;
-use crate::marks::MarkWords;
 use plank_base::OutOfMemory;
+use plank_bits::{MarkWords, Steps};
 use std::alloc::Global;
 use std::marker::Sync;
 use std::sync::ledger::Ledger;
