@@ -1,16 +1,18 @@
 -- What meets all that is asked meets the question, and the other way round.
-use Rattle.std.proofs.Common.{◌≡◌, ℕ, ◌+◌, Bool, true, false, not, List, length, Option, Some, None, refl, sym, ◌∙◌, ap, subst}
-use Rattle.std.specs.Prelude.{slice_get, slice_index_or}
+use Rattle.std.proofs.Common.{◌≡◌, ℕ, ◌+◌, ◌<◌, Bool, true, false, not, List, length, Option, Some, None, refl, sym, ◌∙◌, ap, subst}
+use Rattle.std.specs.Prelude.{◌||◌, slice_get, slice_index_or}
 use Rattle.std.specs.Bool.{beq}
 use Rattle.std.specs.Option.{option_map_or}
 use Rattle.std.specs.List.{All, Contains}
-use Rattle.std.proofs.lemmas.Bool.{true≢false}
+use Rattle.std.proofs.lemmas.Bool.{true≢false, lt-ltb}
 use Rattle.std.proofs.lemmas.List.Elements.{All-contains, All-contains_itself}
 use Rattle.plank_pic.specs.declared.parts.Part.{Part}
 use Rattle.plank_pic.specs.Frames.{Frame}
 use Rattle.plank_pic.specs.Pictures.{Picture}
-use Rattle.plank_pic.specs.Lawful.{◌⇒◌, part_fits, IsPossible}
-use Rattle.plank_pic.specs.Steps.{agrees_with}
+use Rattle.plank_pic.specs.Lawful.{◌⇒◌, part_fits, IsPicture, IsPossible}
+use Rattle.plank_pic.specs.Steps.{Change, agrees_with}
+use Rattle.plank_pic.specs.TestedSteps.{left_of, left_of_name}
+use Rattle.plank_step.specs.Sources.{sources}
 use Rattle.plank_pic.proofs.EachName.{told, same_bits}
 use Rattle.plank_lawful.specs.Laws.{SaysNoOutside}
 use Rattle.plank_lawful.proofs.LawfulMeets.{possible_meets, lawful_meets}
@@ -27,13 +29,16 @@ use Rattle.plank_query.specs.Predicates.{holds}
 use Rattle.plank_query.specs.Goals.{goal_holds}
 use Rattle.plank_query.specs.Questions.{Meets}
 use Rattle.plank_reach.specs.declared.stepping.Stepping.{Stepping}
-use Rattle.plank_reach.specs.Steps.{step_of, change_in, names_in, is_left, MeetsStep}
+use Rattle.plank_reach.specs.Steps.{step_of, turn_in, change_in, names_in, is_left, MeetsStep}
 use Rattle.plank_reach.specs.Kept.{is_kept, is_kept_by}
 use Rattle.plank_reach.proofs.KeptParts.{kept}
 use Rattle.plank_reach.proofs.Meeting.{step_is_tests, bits_same}
 use Rattle.plank_solve.specs.declared.asks.Ask.{Ask}
-use Rattle.plank_solve.specs.Asks.{asked_of_step, ask_holds}
-use Rattle.plank_solve.specs.Lists.{MeetsAsksOfStep, MeetsAsks}
+use Rattle.plank_stay.specs.declared.ways.Way.{Way}
+use Rattle.plank_stay.specs.Stays.{stays}
+use Rattle.plank_stay.proofs.Staying.{stays_so}
+use Rattle.plank_solve.specs.Asks.{asked_of_step, ask_holds, is_staying}
+use Rattle.plank_solve.specs.Lists.{MeetsAsksOfStep, MeetsAsks, way}
 
 -- claims
 right_from : (of : Claim → Bool) (claims : List Claim) → All (λ c. beq (of c) c.value ≡ true) claims → (c : Claim) → Contains claims c → of c ≡ c.value
@@ -49,6 +54,18 @@ implied_if false b h = refl
 yes_of_not : (b : Bool) → not b ≡ false → b ≡ true
 yes_of_not true e = refl
 yes_of_not false e = absurd (true≢false e)
+
+-- what stays visited by the law, in a step that keeps each name its node
+staying : (F : Frame) (s : Stepping) (B A : Picture) → IsPicture F B → MeetsStep F s B A → s.kept ≡ true → (w : Way) → w.name < F.names → is_staying F s B A w ≡ true
+staying F s B A is meets kept w small = ap (λ b. not b || option_map_or (λ c. stays F B A c w) (change_in s) true) kept ∙ by_change (change_in s) refl
+  where
+    by_change : (o : Option Change) → change_in s ≡ o → option_map_or (λ c. stays F B A c w) o true ≡ true
+    by_change None e = refl
+    by_change (Some c) e =
+        stays_so F B A c is w small
+        (ap (λ o. agrees_with (left_of F B o (Part.Visits w.key w.name)) (A (Part.Visits w.key w.name))) (sym e)
+        ∙ ap (λ k. agrees_with (left_of_name (λ n. left_of F B (change_in s) (Part.Visits w.key n)) (sources (turn_in s) k w.name)) (A (Part.Visits w.key w.name))) (sym kept)
+        ∙ meets.parts (Part.Visits w.key w.name) (lt-ltb w.name F.names small))
 
 -- a table in which what is kept is not moved
 abbrev pub IsTableOf : Question → Table → Type 0
@@ -91,7 +108,7 @@ module _ (q : Question) (T : Table) (tables : IsTableOf q T) where
           each : (part : Part) → A part ≡ B part
           each part = by_fit part (part_fits F part) refl
 
-      is_left_so : (s : Stepping) → step_of S ≡ Some s → MeetsAsksOfStep F T Told → (part : Part) → part_fits F part ≡ true → is_left F s B A part ≡ true
+      is_left_so : (s : Stepping) → step_of S ≡ Some s → MeetsAsksOfStep F T s.kept Told → (part : Part) → part_fits F part ≡ true → is_left F s B A part ≡ true
       is_left_so s e asks part fits = by_moved (is_moved T part) refl
         where
           by_moved : (b : Bool) → is_moved T part ≡ b → is_left F s B A part ≡ true
@@ -149,7 +166,7 @@ module _ (q : Question) (T : Table) (tables : IsTableOf q T) where
           by_step None e = subst (IsPossible F) (sym (((step_is_tests q.header.now S B A).none e).0 is.situated.step)) is.situated.lawful.possible
           by_step (Some s) e = (step_met s e).possible
 
-      step_asks : (s : Stepping) → step_of S ≡ Some s → MeetsAsksOfStep F T Told
+      step_asks : (s : Stepping) → step_of S ≡ Some s → MeetsAsksOfStep F T s.kept Told
       step_asks s e =
           let w = step_met s e in
           record {
@@ -157,6 +174,7 @@ module _ (q : Question) (T : Table) (tables : IsTableOf q T) where
             writes = step_told s Ask.Writes e ∙ w.writes;
             possible = possible_all F A (possible_meets F A w.possible);
             left = λ n entry at after fits. step_told s (Ask.Left entry.part) e ∙ w.parts entry.part fits;
+            stays = λ kept k i j small other. step_told s (Ask.Stays (way k i j)) e ∙ staying F s B A is.situated.lawful.possible.picture w kept (way k i j) small;
           }
 
       pub from_meets : ((n : ℕ) (g : Goal) → slice_get q.goals.now n ≡ Some g → on (length T.parts + n) ≡ true → goal_holds q.header.now S B A g ≡ true) → MeetsAsks q F T Told

@@ -1,11 +1,12 @@
 -- What meets each ask of the list meets what is asked, and the other way round.
-use Rattle.std.proofs.Common.{◌≡◌, ℕ, ◌+◌, ◌<◌, Bool, true, false, List, [], ◌∷◌, ◌++◌, map, length, Some, None, refl, sym, ◌∙◌, ap, subst, inl, inr, arith}
+use Rattle.std.proofs.Common.{◌≡◌, ℕ, zero, suc, ◌+◌, ◌<◌, Bool, true, false, List, [], ◌∷◌, ◌++◌, map, length, Some, None, refl, sym, ◌∙◌, ap, subst, inl, inr, arith}
 use Rattle.std.specs.Prelude.{slice_get, Option, is_none}
 use Rattle.std.specs.Option.{option_map_or}
 use Rattle.std.specs.List.{All, Contains}
-use Rattle.std.proofs.lemmas.Bool.{true≢false, and_parts, and_from, cond-true, cond-false}
-use Rattle.std.proofs.lemmas.Option.{slice_get_within, slice_get_cases}
+use Rattle.std.proofs.lemmas.Bool.{true≢false, and_parts, and_from, cond-true, cond-false, cases_eq}
+use Rattle.std.proofs.lemmas.Option.{same_Some, slice_get_within, slice_get_cases}
 use Rattle.std.proofs.lemmas.List.Elements.{All-nil, All-cons, All-head, All-tail, All-append, All-map, All-contains}
+use Rattle.plank_pic.specs.declared.parts.KeyName.{KeyName}
 use Rattle.plank_pic.specs.Frames.{Frame}
 use Rattle.plank_pic.specs.Lawful.{part_fits}
 use Rattle.plank_lawful.specs.Lists.{joined, rules_of_possible, rules_of_lawful}
@@ -19,7 +20,7 @@ use Rattle.plank_query.specs.Situations.{names}
 use Rattle.plank_reach.specs.declared.stepping.Stepping.{Stepping}
 use Rattle.plank_reach.specs.Steps.{step_of}
 use Rattle.plank_solve.specs.declared.asks.Ask.{Ask}
-use Rattle.plank_solve.specs.Lists.{fits_at, is_after, is_moved_entry, left_of_entry, left_at, reaches_at, asks_of_step, asks_of_turn, asks_of, MeetsAsksOfStep, MeetsAsks}
+use Rattle.plank_solve.specs.Lists.{fits_at, is_after, is_moved_entry, left_of_entry, left_at, reaches_at, way, stays_at, stays_of, stays_if, tests_of_step, asks_of_step, asks_of_turn, asks_of, MeetsAsksOfStep, MeetsAsks}
 use Rattle.plank_solve.proofs.Joins.{joined_all}
 
 -- ---- halves of lists, and lists that are mapped
@@ -43,6 +44,15 @@ module _ {X : Type 0} (P : X → Type 0) where
   -- what holds of each item that is joined
   of_joined : (each : ℕ → List X) (n i : ℕ) (x : X) → i < n → Contains (each i) x → All P (joined each n) → P x
   of_joined each n i x below has all = All-contains P (joined each n) x all (joined_there each n i x below has)
+
+-- what holds of all that is joined holds of each list
+part_of_joined : {X : Type 0} (P : X → Type 0) (each : ℕ → List X) (n i : ℕ) → i < n → All P (joined each n) → All P (each i)
+unfolding joined
+part_of_joined P each zero i below all = absurd (omega arith)
+part_of_joined P each (suc n) i below all = elim (cases_eq i n) [
+  | inl same ↦ subst (λ m. All P (each m)) (sym same) (right_of P (joined each n) (each n) all)
+  | inr other ↦ part_of_joined P each n i (omega arith) (left_of P (joined each n) (each n) all)
+]
 
 first_there : {X : Type 0} (x : X) → Contains (x ∷ []) x
 first_there x = (0, omega arith, refl)
@@ -81,8 +91,27 @@ module _ (P : Ask → Type 0) where
     abbrev lefts : List Ask
     lefts = joined (left_at F T.parts) (length T.parts)
 
-    step_asked : All P (asks_of_step F T) → MeetsAsksOfStep F T P
-    step_asked all =
+    -- ---- what stays visited
+
+    way_there : (k : KeyName) (i j : ℕ) → Contains (stays_at i j) (Ask.Stays (way k i j))
+    way_there KeyName.Own i j = (0, omega arith, refl)
+    way_there KeyName.Other i j = (1, omega arith, refl)
+    way_there KeyName.Any i j = (2, omega arith, refl)
+
+    stay_asked : (k : KeyName) (i j : ℕ) → i < F.names → j < F.names → All P (joined (stays_of F.names) F.names) → P (Ask.Stays (way k i j))
+    stay_asked k i j small other all =
+        All-contains P (stays_at i j) (Ask.Stays (way k i j)) (part_of_joined P (stays_at i) F.names j other (part_of_joined P (stays_of F.names) F.names i small all)) (way_there k i j)
+
+    stays_all : (kept : Bool) → MeetsAsksOfStep F T kept P → All P (stays_if F kept)
+    stays_all false m = All-nil P
+    stays_all true m = joined_all P (stays_of F.names) F.names (λ i small. joined_all P (stays_at i) F.names (λ j other.
+        All-cons P (Ask.Stays (way KeyName.Own i j)) _ (m.stays refl KeyName.Own i j small other)
+        (All-cons P (Ask.Stays (way KeyName.Other i j)) _ (m.stays refl KeyName.Other i j small other)
+        (alone P (Ask.Stays (way KeyName.Any i j)) (m.stays refl KeyName.Any i j small other)))))
+
+    step_asked : (kept : Bool) → All P (asks_of_step F T kept) → MeetsAsksOfStep F T kept P
+    step_asked kept both =
+        let all = left_of P (tests_of_step F T) (stays_if F kept) both in
         let rest : All P (Ask.Writes ∷ (possibles ++ lefts)) = All-tail P Ask.Runs (Ask.Writes ∷ (possibles ++ lefts)) all in
         let two : All P (possibles ++ lefts) = All-tail P Ask.Writes (possibles ++ lefts) rest in
         record {
@@ -90,12 +119,16 @@ module _ (P : Ask → Type 0) where
           writes = All-head P Ask.Writes (possibles ++ lefts) rest;
           possible = unmapped P Ask.Possible (rules_of_possible F) (left_of P possibles lefts two);
           left = λ n e at after fits. of_joined P (left_at F T.parts) (length T.parts) n (Ask.Left e.part) (slice_get_within T.parts n e at) (entry_there n e at after fits) (right_of P possibles lefts two);
+          stays = λ is k i j small other. stay_asked k i j small other (subst (λ b. All P (stays_if F b)) is (right_of P (tests_of_step F T) (stays_if F kept) both));
         }
 
-    step_all : MeetsAsksOfStep F T P → All P (asks_of_step F T)
-    step_all m =
+    tests_all : (kept : Bool) → MeetsAsksOfStep F T kept P → All P (tests_of_step F T)
+    tests_all kept m =
         All-cons P Ask.Runs (Ask.Writes ∷ (possibles ++ lefts)) m.runs (All-cons P Ask.Writes (possibles ++ lefts) m.writes
         (All-append P possibles lefts (All-map P Ask.Possible (rules_of_possible F) m.possible) (joined_all P (left_at F T.parts) (length T.parts) (λ n below. entry_all m.left n))))
+
+    step_all : (kept : Bool) → MeetsAsksOfStep F T kept P → All P (asks_of_step F T kept)
+    step_all kept m = All-append P (tests_of_step F T) (stays_if F kept) (tests_all kept m) (stays_all kept m)
 
   -- ---- those of goals
 
@@ -128,13 +161,13 @@ module _ (P : Ask → Type 0) where
     abbrev ruling : List Ask
     ruling = map Ask.Lawful (rules_of_lawful F)
 
-    turn_asked : (o : Option Stepping) → All P (asks_of_turn F T o) → (s : Stepping) → o ≡ Some s → MeetsAsksOfStep F T P
+    turn_asked : (o : Option Stepping) → All P (asks_of_turn F T o) → (s : Stepping) → o ≡ Some s → MeetsAsksOfStep F T s.kept P
     turn_asked None all s e = absurd (true≢false (ap is_none e))
-    turn_asked (Some t) all s e = step_asked F T all
+    turn_asked (Some t) all s e = subst (λ u. MeetsAsksOfStep F T u.kept P) (same_Some t s e) (step_asked F T t.kept all)
 
-    turn_all : (o : Option Stepping) → ((s : Stepping) → o ≡ Some s → MeetsAsksOfStep F T P) → All P (asks_of_turn F T o)
+    turn_all : (o : Option Stepping) → ((s : Stepping) → o ≡ Some s → MeetsAsksOfStep F T s.kept P) → All P (asks_of_turn F T o)
     turn_all None each = All-nil P
-    turn_all (Some s) each = step_all F T (each s refl)
+    turn_all (Some s) each = step_all F T s.kept (each s refl)
 
     abbrev befores : List Ask
     befores = map Ask.Before q.before.now

@@ -3,15 +3,16 @@ ghost use Rattle.plank_lawful.specs.Families.{IsSmall};
 ghost use Rattle.plank_lawful.specs.Lists.{joined};
 ghost use Rattle.plank_query.specs.Situations.{names};
 ghost use Rattle.plank_reach.specs.Steps.{step_of};
-ghost use Rattle.plank_solve.specs.Lists.{fits_at, left_at, reaches_at, asks_of_step, asks_of_turn, asks_of};
+ghost use Rattle.plank_solve.specs.Lists.{fits_at, left_at, reaches_at, stays_at, stays_of, tests_of_step, asks_of_step, asks_of_turn, asks_of};
 
 use plank_base::OutOfMemory;
 use plank_lawful::{Family, KeyRule, NameRule, PointerRule, Rule, lawful_rules, possible_rules};
 use plank_parts::{Numbering, Side, View};
-use plank_pic::Part;
+use plank_pic::{KeyName, Part};
 use plank_query::{Claim, Goal, Question};
 use plank_reach::step_of;
 use plank_search::Values;
+use plank_stay::Way;
 use std::alloc::Global;
 
 /// One thing that is asked of the pictures of a question.
@@ -32,6 +33,9 @@ pub enum Ask {
     Writes,
     /// What the step leaves of a part is there after it.
     Left(Part),
+    /// Where the walks before and after its write meet again, a visited node stays visited. It follows from
+    /// what the step leaves, and is seen sooner.
+    Stays(Way),
     /// If this number is yes, the goal is reached.
     Reaches { number: usize, goal: Goal },
 }
@@ -48,6 +52,7 @@ impl Ask {
             | Ask::Runs
             | Ask::Writes
             | Ask::Left(_)
+            | Ask::Stays(_)
             | Ask::Reaches { .. } => true,
         }
     }
@@ -199,17 +204,66 @@ fn push_runs(asks: &mut Vec<Ask>) -> Result<(), OutOfMemory>
     Ok(())
 }
 
-fn push_step(
+// That a node stays visited by each key, where the edge of the written node led to another.
+fn push_stays_at(name: u8, out: u8, asks: &mut Vec<Ask>) -> Result<(), OutOfMemory>
+    ensures { IfOk result (λ _. asks.new.items ≡ asks.old.items ++ stays_at name out) }
+{
+    let key = KeyName::Own;
+    asks.push(Ask::Stays(Way { key, name, out }))?;
+    let key = KeyName::Other;
+    asks.push(Ask::Stays(Way { key, name, out }))?;
+    let key = KeyName::Any;
+    asks.push(Ask::Stays(Way { key, name, out }))?;
+    Ok(())
+}
+
+#[tactic(auto, using(plank_lawful::proofs::Joined::joined_none))]
+fn push_stays_of(names: u8, name: u8, asks: &mut Vec<Ask>) -> Result<(), OutOfMemory>
+    ensures { IfOk result (λ _. asks.new.items ≡ asks.old.items ++ stays_of names name) }
+{
+    for out in 0..names {
+        push_stays_at(name, out, asks)?;
+    }
+    Ok(())
+}
+
+#[tactic(auto, using(plank_lawful::proofs::Joined::joined_none))]
+fn push_stays(names: u8, asks: &mut Vec<Ask>) -> Result<(), OutOfMemory>
+    ensures { IfOk result (λ _. asks.new.items ≡ asks.old.items ++ joined (stays_of names) names) }
+{
+    for name in 0..names {
+        push_stays_of(names, name, asks)?;
+    }
+    Ok(())
+}
+
+fn push_tests(
     alloc: Global,
     source: &View<'_, '_, '_>,
     asks: &mut Vec<Ask>,
 ) -> Result<(), OutOfMemory>
     requires small { IsSmall source.now.numbering.now.frame }
-    ensures { IfOk result (λ _. asks.new.items ≡ asks.old.items ++ asks_of_step source.now.numbering.now.frame source.now.numbering.now.table) }
+    ensures { IfOk result (λ _. asks.new.items ≡ asks.old.items ++ tests_of_step source.now.numbering.now.frame source.now.numbering.now.table) }
 {
     push_runs(asks)?;
     push_possible(possible_rules(alloc, source)?.as_slice(), asks)?;
     push_left(source.numbering, asks)?;
+    Ok(())
+}
+
+fn push_step(
+    alloc: Global,
+    source: &View<'_, '_, '_>,
+    kept: bool,
+    asks: &mut Vec<Ask>,
+) -> Result<(), OutOfMemory>
+    requires small { IsSmall source.now.numbering.now.frame }
+    ensures { IfOk result (λ _. asks.new.items ≡ asks.old.items ++ asks_of_step source.now.numbering.now.frame source.now.numbering.now.table kept) }
+{
+    push_tests(alloc, source, asks)?;
+    if kept {
+        push_stays(source.names(), asks)?;
+    }
     Ok(())
 }
 
@@ -224,7 +278,7 @@ fn push_turn(
     ensures { IfOk result (λ _. asks.new.items ≡ asks.old.items ++ asks_of_turn source.now.numbering.now.frame source.now.numbering.now.table (step_of question.now.situation)) }
 {
     match step_of(&question.situation) {
-        Some(_) => push_step(alloc, source, asks),
+        Some(step) => push_step(alloc, source, step.kept, asks),
         None => Ok(()),
     }
 }

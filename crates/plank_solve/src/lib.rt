@@ -6,6 +6,7 @@ mod asks;
 mod found;
 mod ruling;
 mod solver;
+mod staying;
 mod views;
 
 pub use asks::Ask;

@@ -322,6 +322,7 @@ impl<'n, 's, 'v> Views<'n, 's, 'v> {
             Ask::Runs => runs(&view!(self, Side::Before), &step.turn, reads),
             Ask::Writes => self.writes_rightly(&step, reads),
             Ask::Left(part) => self.is_left(&step, part, reads),
+            Ask::Stays(way) => self.is_staying(&step, way, reads),
             _ => Ok(true),
         }
     }
@@ -346,6 +347,7 @@ impl<'n, 's, 'v> Views<'n, 's, 'v> {
             Ask::Runs => self.answer_step(situation, ask, reads),
             Ask::Writes => self.answer_step(situation, ask, reads),
             Ask::Left(_) => self.answer_step(situation, ask, reads),
+            Ask::Stays(_) => self.answer_step(situation, ask, reads),
         }
     }
 }

@@ -4,7 +4,7 @@ use Rattle.plank_lawful.specs.Lists.{joined, rules_of_possible}
 use Rattle.plank_solve.specs.declared.asks.Ask.{Ask}
 use Rattle.plank_solve.specs.Lists.{left_at}
 use Rattle.plank_solve.proofs.Joins.{three_lists}
-use Rattle.plank_solve.proofs.asks.push_step.Goals as goal
+use Rattle.plank_solve.proofs.asks.push_tests.Goals as goal
 
 pub returns : goal.returns
 returns c =

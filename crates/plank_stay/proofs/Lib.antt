@@ -1,0 +1,4 @@
+pub mod TwoWalks
+pub mod Firsts
+pub mod Leading
+pub mod Staying
