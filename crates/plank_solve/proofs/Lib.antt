@@ -1,4 +1,5 @@
 pub mod Joins
+pub mod Written
 pub mod Listing
 pub mod Exact
 pub mod Rounds

@@ -105,8 +105,8 @@ module _ (P : Ask → Type 0) where
     stays_all : (kept : Bool) → MeetsAsksOfStep F T kept P → All P (stays_if F kept)
     stays_all false m = All-nil P
     stays_all true m = joined_all P (stays_of F.names) F.names (λ i small. joined_all P (stays_at i) F.names (λ j other.
-        All-cons P (Ask.Stays (way KeyName.Own i j)) _ (m.stays refl KeyName.Own i j small other)
-        (All-cons P (Ask.Stays (way KeyName.Other i j)) _ (m.stays refl KeyName.Other i j small other)
+        All-cons P (Ask.Stays (way KeyName.Own i j)) (Ask.Stays (way KeyName.Other i j) ∷ Ask.Stays (way KeyName.Any i j) ∷ []) (m.stays refl KeyName.Own i j small other)
+        (All-cons P (Ask.Stays (way KeyName.Other i j)) (Ask.Stays (way KeyName.Any i j) ∷ []) (m.stays refl KeyName.Other i j small other)
         (alone P (Ask.Stays (way KeyName.Any i j)) (m.stays refl KeyName.Any i j small other)))))
 
     step_asked : (kept : Bool) → All P (asks_of_step F T kept) → MeetsAsksOfStep F T kept P

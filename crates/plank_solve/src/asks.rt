@@ -13,6 +13,7 @@ use plank_query::{Claim, Goal, Question};
 use plank_reach::step_of;
 use plank_search::Values;
 use plank_stay::Way;
+use plank_walk::Reader;
 use std::alloc::Global;
 
 /// One thing that is asked of the pictures of a question.
