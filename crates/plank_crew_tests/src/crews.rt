@@ -4,7 +4,8 @@ ghost use Rattle.std.specs.Prelude.{◌≡◌, ◌<◌, ◌≤◌, length, IfOk}
 use crate::failing::Failing;
 use crate::shapes::{random, staircase};
 use plank_base::OutOfMemory;
-use plank_bits::{Forcing, MarkWords, Steps, rounds};
+use plank_bits::{MarkWords, Steps};
+use plank_board::Forcing;
 use plank_crew::crew;
 use plank_io::{Gate, OpenGate};
 use std::alloc::Global;

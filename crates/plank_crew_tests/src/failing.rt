@@ -2,7 +2,8 @@
 ghost use Rattle.std.specs.Prelude.{◌≡◌, ◌≤◌, ◌<◌};
 
 use plank_base::OutOfMemory;
-use plank_bits::{Forcing, MarkWords, Steps};
+use plank_bits::{MarkWords, Steps};
+use plank_board::Forcing;
 use std::alloc::Global;
 use std::sync::atomic::{AtomicU64, Ordering};
 use std::sync::ledger::Ledger;

@@ -4,7 +4,8 @@ ghost use Rattle.plank_bits.specs.Words.{has};
 ghost use Rattle.plank_crew_tests.specs.Rules.{AreSet, Applies};
 
 use plank_base::OutOfMemory;
-use plank_bits::{Forcing, MarkWords, Steps};
+use plank_bits::{MarkWords, Steps};
+use plank_board::Forcing;
 use std::alloc::Global;
 use std::sync::ledger::Ledger;
 
