@@ -1,5 +1,5 @@
 //! Which methods are worth a run soon. Hints: whatever is said here, all that are behind are run in the end.
-ghost use Rattle.std.specs.Prelude.{◌≡◌, ◌+◌, ◌*◌, ◌<◌, ◌≤◌, IfSome};
+ghost use Rattle.std.specs.Prelude.{◌≡◌, ◌+◌, ◌*◌, ◌<◌, ◌≤◌, true, IfSome};
 ghost use Rattle.plank_crew.specs.Turns.{IsBehind};
 
 use plank_base::OutOfMemory;

@@ -61,10 +61,12 @@ pub fn work<N: Named, F: Forcing, G: Gate, L: Ledger>(
         turns.begin(m);
         let found = forcing.force(alloc, m, &look, steps)?;
         board.post(seat, m, &found);
-        let Some(next) = next_method(board, seat, &mut look, methods, m) else {
-            return Ok(());
-        };
-        turns.note_look(forcing, &look);
-        m = choose(seat, &turns, methods, m, next);
+        match next_method(board, seat, &mut look, methods, m) {
+            Some(next) => {
+                turns.note_look(forcing, &look);
+                m = choose(seat, &turns, methods, m, next);
+            }
+            None => return Ok(()),
+        }
     }
 }

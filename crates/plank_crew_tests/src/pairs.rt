@@ -7,7 +7,7 @@ use crate::seats::{post, sit};
 use crate::shapes::pair;
 use plank_base::OutOfMemory;
 use plank_bits::{MarkWords, Steps};
-use plank_board::{Board, Named, Posted, Seat};
+use plank_board::{Board, Forcing, Named, Posted, Seat};
 use std::alloc::Global;
 use std::marker::Brand;
 use std::sync::ledger::{Blank, Ledger};

@@ -7,7 +7,7 @@ use crate::shapes::relay;
 use crate::tables::Table;
 use plank_base::OutOfMemory;
 use plank_bits::{MarkWords, Steps};
-use plank_board::{Board, Named, Posted, Quiet, Seat};
+use plank_board::{Board, Forcing, Named, Posted, Quiet, Seat};
 use std::alloc::Global;
 use std::marker::Brand;
 use std::process::Abort;
