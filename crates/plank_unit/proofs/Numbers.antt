@@ -2,6 +2,7 @@
 use Rattle.std.specs.Prelude.{◌≡◌, ℕ, zero, suc, ◌+◌, ◌-◌, ◌<◌, ◌≤◌, List, length, sum_by, slice_get, Option, Some}
 use Rattle.std.specs.Option.{option_map_or}
 use Rattle.std.proofs.Common.{refl, sym, ◌∙◌, ap, subst, inl, inr, arith}
+use Rattle.std.proofs.Math.Seq.{take-length}
 use Rattle.std.proofs.lemmas.Bool.{cases_eq, cases_lt}
 use Rattle.std.proofs.lemmas.Option.{slice_get_within}
 use Rattle.plank_prog.specs.declared.methods.Method.{Method}
@@ -10,6 +11,9 @@ use Rattle.plank_fact.specs.Outlines.{Point, locations_before, location_number}
 use Rattle.plank_marks.proofs.Rooms.{within_all, before_more}
 
 module _ (methods : List Method) where
+  pub all_before : locations_before methods (length methods) ≡ sum_by location_count methods
+  all_before = ap (sum_by location_count) (take-length methods)
+
   pub number_within : (x : Point methods) → location_number methods x.m x.l < sum_by location_count methods
   number_within x =
       let there = slice_get_within x.method.locations x.l x.location x.there in

@@ -1,4 +1,4 @@
-ghost use Rattle.std.specs.Prelude.{◌≡◌, ℕ, ◌+◌, ◌*◌, ◌<◌, length, slice_get};
+ghost use Rattle.std.specs.Prelude.{◌≡◌, ℕ, ◌+◌, ◌*◌, ◌<◌, cond, length, slice_get};
 ghost use Rattle.std.specs.Option.{option_map_or};
 ghost use Rattle.plank_prog.specs.Methods.{location_count};
 ghost use Rattle.plank_fact.specs.Outlines.{location_number};
@@ -52,7 +52,7 @@ pub fn unit_at(program: &Program, unit: u32) -> Unit
     ensures location { result.at.location < option_map_or location_count
         (slice_get program.now.methods result.at.method) 0 }
     ensures number { 2 * location_number program.now.methods result.at.method result.at.location
-        + (if result.others then 1 else 0) ≡ unit }
+        + cond result.others 1 0 ≡ unit }
 {
     Unit {
         at: location_at(program, unit / 2),
