@@ -104,6 +104,10 @@ impl<'a, D: Deciding + Sync> Forcing for Prover<'a, D> {
         if m >= unit_count(program) {
             return false;
         }
-        is_reached(program, unit_at(program, m).at, word / MARK_WORDS_PER_LOCATION)
+        is_reached(
+            program,
+            unit_at(program, m).at,
+            word / MARK_WORDS_PER_LOCATION,
+        )
     }
 }

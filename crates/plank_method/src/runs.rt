@@ -129,12 +129,7 @@ impl<'a, D: Deciding> Locations<'a, D> {
     }
 
     // The facts that are left where a call may begin at the location, and after the steps that lead there.
-    fn had(
-        &self,
-        alloc: Global,
-        location: u32,
-        claimed: &FactSet,
-    ) -> Result<FactSet, OutOfMemory>
+    fn had(&self, alloc: Global, location: u32, claimed: &FactSet) -> Result<FactSet, OutOfMemory>
         requires { length self.now.marks.now ≡ mark_words (D.program self.now.deciding.now).methods }
         ensures { IfOk result (λ left. IsSiftedAt (D.program self.now.deciding.now) self.now.marks.now
             self.now.method location claimed.now left (λ O x. IsHadBySteps O x) (λ O x. IsRefutedBySteps O x)) }
