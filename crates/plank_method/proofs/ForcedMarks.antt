@@ -20,7 +20,7 @@ use Rattle.plank_unit.specs.Units.{IsForcedThere}
 use Rattle.plank_unit.proofs.Numbers.{same_method, same_location}
 use Rattle.plank_method.specs.Deciding.{outline_of}
 use Rattle.plank_method.specs.Marks.{facts_below, is_claimed, unmarked_below, is_put}
-use Rattle.plank_method.specs.Runs.{IsSiftedAt, IsForcedAt, AreForcedAt, AreFound}
+use Rattle.plank_method.specs.Runs.{IsSiftedAt, IsForcedAt, AreFound}
 
 -- the facts of a method have room among the marks of a location
 fact_has_room : (p : Program) (m : ℕ) (method : Method) (n : ℕ) (f : Fact) → slice_get p.methods m ≡ Some method → IsNumbered p.header method n f → n < 64 * MARK_WORDS_PER_LOCATION
@@ -138,19 +138,10 @@ module _ (p : Program) (marks : List ℕ) (m l first : ℕ) (first_is : first �
     others_hold n f is e =
         (left_are x of_method of_location).left n f is (not_gone (has left n) (sym (ap (λ b. b && not (has left n)) (number_of_fact n f is)) ∙ sym (forced_are n) ∙ e))
 
-  forced_there : AreForcedAt p marks m l forced Holds Refutes
-  forced_there = record {
-    forced = λ x of_method of_location n. (forced_so x of_method of_location n, so_forced x of_method of_location n);
-    others = others_hold;
-  }
-
   -- ---- their marks
 
   module _ (here : IsThere p.methods m l) (found : List ℕ) (same : length found ≡ length marks)
       (found_are : (k : ℕ) → has found k ≡ some_below (is_put (has forced) first k) (64 * MARK_WORDS_PER_LOCATION)) where
-    number : ℕ
-    number = location_number p.methods m l
-
     of_m : (x : Point p.methods) → location_number p.methods x.m x.l ≡ location_number p.methods m l → x.m ≡ m
     of_m x is = same_method p.methods x here.point (is ∙ sym (ap (λ i. location_number p.methods i here.point.l) here.of_method ∙ ap (location_number p.methods m) here.of_location)) ∙ here.of_method
 

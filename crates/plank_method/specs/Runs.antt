@@ -66,12 +66,7 @@ pub record IsForcedAt (Refutes : (O : Outline) → Point O.methods → Fact → 
   pub numbered : IsNumbered O.header x.method n fact
   pub forced : (O.marks (mark_number O.methods x.m x.l n) ≡ true) ⊎ Refutes O x fact
 
--- the numbers of just the facts that are forced at the location; of each other this holds
-pub record AreForcedAt (p : Program) (marks : List ℕ) (m l : ℕ) (forced : List ℕ) (Holds Refutes : (O : Outline) → Point O.methods → Fact → Type 0) : Type 0 where
-  pub forced : (x : Point p.methods) → x.m ≡ m → x.l ≡ l → (n : ℕ) → IsTrue (has forced n) ↔ IsForcedAt Refutes (outline_of p marks) x n
-  pub others : (x : Point p.methods) → x.m ≡ m → x.l ≡ l → (n : ℕ) (f : Fact) → IsNumbered p.header x.method n f → has forced n ≡ false → Holds (outline_of p marks) x f
-
--- the same as marks
+-- just the marks of the facts that are forced at the location of a number were found; of each other fact there this holds
 pub record AreFound (p : Program) (marks : List ℕ) (number : ℕ) (found : List ℕ) (Holds Refutes : (O : Outline) → Point O.methods → Fact → Type 0) : Type 0 where
   pub same_length : length found ≡ length marks
   pub forced : (k : ℕ) → IsTrue (has found k) ↔ IsForcedThere p.header p.methods Refutes number (has marks) k

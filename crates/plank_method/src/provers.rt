@@ -87,9 +87,11 @@ impl<'a, D: Deciding + Sync> Forcing for Prover<'a, D> {
         steps.tick();
         let unit = unit_at(self.deciding.program(), m);
         if unit.others {
-            forced_by_others(alloc, self.deciding, unit.at, marks)
+            let broken = forced_by_others(alloc, self.deciding, unit.at, marks)?;
+            Ok(broken)
         } else {
-            forced_by_steps(alloc, self.deciding, unit.at, marks)
+            let refuted = forced_by_steps(alloc, self.deciding, unit.at, marks)?;
+            Ok(refuted)
         }
     }
 

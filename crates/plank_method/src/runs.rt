@@ -185,7 +185,8 @@ pub(crate) fn forced_by_steps<D: Deciding>(
     };
     let left = locations.had(alloc, at.location, &claimed)?;
     let forced = facts.minus(&left);
-    marks_of(alloc, marks.len(), first, &forced)
+    let found = marks_of(alloc, marks.len(), first, &forced)?;
+    Ok(found)
 }
 
 /// The marks of a location that are set already, and those of the facts that a step of another call may break.
@@ -213,5 +214,6 @@ pub(crate) fn forced_by_others<D: Deciding>(
     };
     let left = locations.unbroken(alloc, at.location, &claimed)?;
     let forced = facts.minus(&left);
-    marks_of(alloc, marks.len(), first, &forced)
+    let found = marks_of(alloc, marks.len(), first, &forced)?;
+    Ok(found)
 }
