@@ -2,5 +2,5 @@
 use Rattle.std.proofs.Common.{◌≡◌, length}
 use Rattle.plank_crew_tests.proofs.crews.rounds.Given as goal
 
-abbrev pub invariant-loop-_turn : goal.invariant-loop-_turn
-invariant-loop-_turn g l = length l.marks ≡ g.F.Forcing.word_count l.forcing
+abbrev pub invariant-loop-turn : goal.invariant-loop-turn
+invariant-loop-turn g l = length l.marks ≡ g.F.Forcing.word_count l.forcing
