@@ -11,8 +11,8 @@ ghost use Rattle.std.specs.Prelude.{◌≡◌, ◌*◌, ◌<◌, ◌≤◌, leng
 ghost use Rattle.plank_crew.specs.Names.{IsNameOf};
 
 use plank_base::OutOfMemory;
-use plank_bits::{Forcing, MarkWords};
-use plank_board::{Board, Named, Seat};
+use plank_bits::MarkWords;
+use plank_board::{Board, Forcing, Named, Seat};
 use plank_crew::crew;
 use plank_crew_tests::Table;
 use plank_io::OpenGate;
@@ -92,7 +92,7 @@ fn look_many<N: Named, F: Forcing>(
     forcing: &F,
     times: u32,
 ) -> Result<(), OutOfMemory>
-    requires name { IsNameOf N.methods N.words N.forces (F.method_count forcing.now) (F.word_count forcing.now) (F.forces forcing.now) }
+    requires name { IsNameOf N.methods N.words N.forces N.still (F.method_count forcing.now) (F.word_count forcing.now) (F.forces forcing.now) (F.still forcing.now) }
 {
     let (board, mut seat) = Board::<N>::new(alloc, forcing, 1)?;
     let mut look = MarkWords::new(alloc, forcing.words())?;

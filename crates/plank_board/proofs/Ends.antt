@@ -1,5 +1,6 @@
 -- Where every seat has left, the marks are the least set.
 use Rattle.std.proofs.Common.{◌≡◌, ℕ, ◌+◌, ◌-◌, ◌<◌, ◌≤◌, cond, Bool, false, List, length, set, slice_index, sym, ◌∙◌, ap, subst, inl, inr, arith}
+use Rattle.std.proofs.Math.Path.{fun_ext}
 use Rattle.std.proofs.lemmas.Bool.{cases_eq, cases_lt}
 use mathlib.Core.Option.{some, some-injective}
 use lib.ListN.{get_elem?}
@@ -8,18 +9,16 @@ use Rattle.plank_bits.specs.Words.{has, IsWithin}
 use Rattle.plank_bits.specs.Forced.{IsLeast}
 use Rattle.plank_board.specs.declared.views.View.{View}
 use Rattle.plank_board.specs.Words.{epoch, settled, mark_word, marks}
+use Rattle.plank_board.specs.Stills.{IsClosing, AreStill}
 use Rattle.plank_board.specs.Events.{spent}
 use Rattle.plank_board.specs.Rule.{parts_of, AreForced, IsKept, HaveLeft}
 use Rattle.plank_board.proofs.Places.{has_marks}
 use Rattle.plank_board.proofs.Sums.{sum_at, part_of_sum, sum_none}
 
-module _ (methods words : ℕ) (forces : ℕ → (ℕ → Bool) → ℕ → Type 0) (seats : ℕ) (ws : List ℕ) (vs : List View) (kept : IsKept methods words forces seats ws vs) where
-  pub left_is_least : HaveLeft vs → IsLeast forces methods (marks methods ws)
-  left_is_least left =
-      record {
-        closed = λ k (m, below, forced). kept.sound.quiet left.grown m below (all_settled m below) k forced;
-        within = λ b closed k e. kept.sound.forced b closed k e;
-      }
+module _ (methods words : ℕ) (forces : ℕ → (ℕ → Bool) → ℕ → Type 0) (still : ℕ → (ℕ → Bool) → Type 0) (seats : ℕ) (ws : List ℕ) (vs : List View) (kept : IsKept methods words forces still seats ws vs) where
+  pub left_are_still : HaveLeft vs → AreStill still methods (marks methods ws)
+  left_are_still left m below =
+      kept.sound.quiet left.grown m below (all_settled m below)
     where
       -- a lower settled word would bound all leavings, so all raises, so the epoch
       not_lower : (m : ℕ) → m < methods → settled ws m < epoch ws + 1 → ⊥
@@ -38,6 +37,13 @@ module _ (methods words : ℕ) (forces : ℕ → (ℕ → Bool) → ℕ → Type
             | inl low ↦ absurd (not_lower m below low)
             | inr high ↦ omega (arith, high, kept.sound.settles m below)
           ]
+
+  pub left_is_least : IsClosing forces still methods → HaveLeft vs → IsLeast forces methods (marks methods ws)
+  left_is_least closing left =
+      record {
+        closed = λ k (m, below, forced). closing m k (marks methods ws) below (left_are_still left m below) forced;
+        within = λ b closed k e. kept.sound.forced b closed k e;
+      }
 
   -- a seat with all parts that left at its last raise or later stands for all
   pub last_has_left : (id : ℕ) (v : View) → get_elem? vs id ≡ some v → v.parts ≡ seats → v.grows ≡ false → v.raised < v.left → HaveLeft vs
@@ -65,7 +71,7 @@ module _ (methods words : ℕ) (forces : ℕ → (ℕ → Bool) → ℕ → Type
 
 -- ---- the words that are left when the board is closed
 
-module _ (methods words : ℕ) (forces : ℕ → (ℕ → Bool) → ℕ → Type 0) (seats : ℕ) (ws : List ℕ) (vs : List View) (kept : IsKept methods words forces seats ws vs) (id : ℕ) (v : View) (here : get_elem? vs id ≡ some v) (last : List ℕ) (size : length last ≡ words) (copied : (j : ℕ) → j < words → slice_index last j ≡ mark_word methods ws j) where
+module _ (methods words : ℕ) (forces : ℕ → (ℕ → Bool) → ℕ → Type 0) (still : ℕ → (ℕ → Bool) → Type 0) (seats : ℕ) (ws : List ℕ) (vs : List View) (kept : IsKept methods words forces still seats ws vs) (id : ℕ) (v : View) (here : get_elem? vs id ≡ some v) (last : List ℕ) (size : length last ≡ words) (copied : (j : ℕ) → j < words → slice_index last j ≡ mark_word methods ws j) where
   same : (k : ℕ) → has last k ≡ marks methods ws k
   same = has_marks methods words ws last kept.sound.many size copied
 
@@ -75,7 +81,15 @@ module _ (methods words : ℕ) (forces : ℕ → (ℕ → Bool) → ℕ → Type
   pub closed_forced : AreForced methods words forces (has last)
   closed_forced c closed k e = kept.sound.forced c closed k (sym (same k) ∙ e)
 
-  pub closed_least : v.parts ≡ seats → v.grows ≡ false → v.raised < v.left → IsLeast forces methods (has last)
-  closed_least all idle left =
-      let one : marks methods ws ≡ has last = λ i k. sym (same k) i in
-      subst (IsLeast forces methods) one (left_is_least methods words forces seats ws vs kept (last_has_left methods words forces seats ws vs kept id v here all idle left))
+  one : marks methods ws ≡ has last
+  one = fun_ext (λ k. sym (same k))
+
+  module _ (all : v.parts ≡ seats) (idle : v.grows ≡ false) (left : v.raised < v.left) where
+    all_left : HaveLeft vs
+    all_left = last_has_left methods words forces still seats ws vs kept id v here all idle left
+
+    pub closed_still : AreStill still methods (has last)
+    closed_still = subst (AreStill still methods) one (left_are_still methods words forces still seats ws vs kept all_left)
+
+    pub closed_least : IsClosing forces still methods → IsLeast forces methods (has last)
+    closed_least closing = subst (IsLeast forces methods) one (left_is_least methods words forces still seats ws vs kept closing all_left)

@@ -50,10 +50,10 @@ module _ (methods words : ℕ) (forces : ℕ → (ℕ → Bool) → ℕ → Type
         noted = s.noted;
       }
 
-  module _ (monotone : IsMonotone forces methods) (seats : ℕ) where
-    pub splits_kept : (id : ℕ) (v : View) → 1 < v.parts → v.grows ≡ false → Splits (Holds methods words forces seats) id v (kept_part v) (given_part v)
-    splits_kept id v several idle s kept here = splits methods words forces monotone seats s.words s.views kept id v here several idle
+  module _ (still : ℕ → (ℕ → Bool) → Type 0) (monotone : IsMonotone forces methods) (seats : ℕ) where
+    pub splits_kept : (id : ℕ) (v : View) → 1 < v.parts → v.grows ≡ false → Splits (Holds methods words forces still seats) id v (kept_part v) (given_part v)
+    splits_kept id v several idle s kept here = splits methods words forces still monotone seats s.words s.views kept id v here several idle
 
-    pub joins_kept : (id other : ℕ) (v w : View) → 0 < v.parts → v.grows ≡ false → w.grows ≡ false → Joins (Holds methods words forces seats) id v other w (joined v w) spent
+    pub joins_kept : (id other : ℕ) (v w : View) → 0 < v.parts → v.grows ≡ false → w.grows ≡ false → Joins (Holds methods words forces still seats) id v other w (joined v w) spent
     joins_kept id other v w mine idle idle_other s kept here apart there =
-        joins methods words forces monotone seats s.words s.views kept id v here other w apart (sym (set_else s.views id other (joined v w) apart) ∙ there) mine idle idle_other
+        joins methods words forces still monotone seats s.words s.views kept id v here other w apart (sym (set_else s.views id other (joined v w) apart) ∙ there) mine idle idle_other

@@ -3,11 +3,13 @@ use Rattle.std.proofs.Common.{◌≡◌, ◌≢◌, ◌⊎◌, ℕ, zero, suc, �
 use Rattle.std.specs.Prelude.{if◌then◌else◌}
 use Rattle.std.proofs.lemmas.Bool.{cases_eq, cases_lt, eq-eqb, ne_eqb, false≢true}
 use Rattle.std.proofs.lemmas.Nat.{div-add-mod'}
+use Rattle.std.proofs.Math.Path.{fun_ext}
 use Rattle.std.proofs.lemmas.List.{get_or-replicate, length-replicate, get_or_past, get_or-set_same, get_or-set_other, set-get_or, length-set}
 use Rattle.std.proofs.lemmas.List.Sums.{sum_by_push}
 use mathlib.Core.Option.{some, some-injective, some-ne-none}
 use lib.ListN.{get_elem?}
 use Rattle.atomic_table.proofs.Lists.{at_set, at_snoc, at_longer, set_else}
+use Rattle.plank_base.proofs.Digits.{same_tests}
 use Rattle.plank_bits.specs.Words.{is_set, has, IsWithin}
 use Rattle.plank_bits.specs.Forced.{IsMonotone}
 use Rattle.plank_bits.proofs.SetLemmas.{count_below-same}
@@ -54,7 +56,7 @@ no_mark n k = ap (λ w. is_set w (k % 64)) (get_or-replicate_same n (k / 64)) �
 pub quotient_below : (k words : ℕ) → k < 64 * words → k / 64 < words
 quotient_below k words h = omega (arith, div-add-mod' k 64)
 
-module _ (methods words : ℕ) (forces : ℕ → (ℕ → Bool) → ℕ → Type 0) (monotone : IsMonotone forces methods) where
+module _ (methods words : ℕ) (forces : ℕ → (ℕ → Bool) → ℕ → Type 0) (still : ℕ → (ℕ → Bool) → Type 0) (monotone : IsMonotone forces methods) where
   -- words of which none is less than before
   record AreLater (ws us : List ℕ) : Type 0 where
     more : IsWithin (marks methods ws) (marks methods us)
@@ -215,13 +217,13 @@ module _ (methods words : ℕ) (forces : ℕ → (ℕ → Bool) → ℕ → Type
           idle = λ none. absurd (omega arith);
         }
 
-  module _ (seats : ℕ) (ws : List ℕ) (vs : List View) (kept : IsKept methods words forces seats ws vs) (id : ℕ) (v : View) (here : get_elem? vs id ≡ some v) where
+  module _ (seats : ℕ) (ws : List ℕ) (vs : List View) (kept : IsKept methods words forces still seats ws vs) (id : ℕ) (v : View) (here : get_elem? vs id ≡ some v) where
     -- ---- one seat has another view, and the words may be others
 
     fit : Fits methods words forces ws (growing vs) v
     fit = kept.each id v here
 
-    replaced : (us : List ℕ) (w : View) → AreSound methods words forces us (growing (set vs id w)) → w.parts ≡ v.parts → (epoch us ≤ w.raised) ⊎ ((epoch us ≡ epoch ws) × (v.raised ≤ w.raised)) → ((u : View) → Fits methods words forces ws (growing vs) u → Fits methods words forces us (growing (set vs id w)) u) → Fits methods words forces us (growing (set vs id w)) w → IsKept methods words forces seats us (set vs id w)
+    replaced : (us : List ℕ) (w : View) → AreSound methods words forces still us (growing (set vs id w)) → w.parts ≡ v.parts → (epoch us ≤ w.raised) ⊎ ((epoch us ≡ epoch ws) × (v.raised ≤ w.raised)) → ((u : View) → Fits methods words forces ws (growing vs) u → Fits methods words forces us (growing (set vs id w)) u) → Fits methods words forces us (growing (set vs id w)) w → IsKept methods words forces still seats us (set vs id w)
     replaced us w sound parts raised others mine =
         record {
           sound = sound;
@@ -250,14 +252,14 @@ module _ (methods words : ℕ) (forces : ℕ → (ℕ → Bool) → ℕ → Type
         one j u e at = same_some v u (sym here ∙ ap (get_elem? vs) (sym e) ∙ at)
 
     -- the words are the same
-    seen_more : (w : View) → w.grows ≡ v.grows → w.parts ≡ v.parts → v.raised ≤ w.raised → Fits methods words forces ws (growing vs) w → IsKept methods words forces seats ws (set vs id w)
+    seen_more : (w : View) → w.grows ≡ v.grows → w.parts ≡ v.parts → v.raised ≤ w.raised → Fits methods words forces ws (growing vs) w → IsKept methods words forces still seats ws (set vs id w)
     seen_more w grows parts raised fits =
         let same : growing vs ≡ growing (set vs id w) = omega (arith, sum_at digit vs id v w here, ap {B = ℕ} (λ (b : Bool). cond b 1 0) grows) in
-        replaced ws w (subst (AreSound methods words forces ws) same kept.sound) parts (inr (refl, raised)) (λ u f. subst (λ n. Fits methods words forces ws n u) same f) (subst (λ n. Fits methods words forces ws n w) same fits)
+        replaced ws w (subst (AreSound methods words forces still ws) same kept.sound) parts (inr (refl, raised)) (λ u f. subst (λ n. Fits methods words forces ws n u) same f) (subst (λ n. Fits methods words forces ws n w) same fits)
 
     -- ---- bits are set in a word
 
-    module _ (m i bits : ℕ) (may : May methods words forces v (sets m i bits)) (low : mark_word methods ws i < 2 ^ 64) (mine : 0 < v.parts) where
+    module _ (m i bits : ℕ) (may : May methods words forces still v (sets m i bits)) (low : mark_word methods ws i < 2 ^ 64) (mine : 0 < v.parts) where
       there : methods + 1 + i < length ws
       there = omega (arith, kept.sound.many, may.0)
 
@@ -265,7 +267,7 @@ module _ (methods words : ℕ) (forces : ℕ → (ℕ → Bool) → ℕ → Type
       now = bit_or (mark_word methods ws i) bits
 
       -- where they change nothing
-      sets_none : now ≡ mark_word methods ws i → IsKept methods words forces seats ws (set vs id (record v { events = suc v.events; marks = set v.marks i now; reached = set v.reached i (mark_word methods ws i); reached_at = set v.reached_at i (suc v.events); grows = v.grows }))
+      sets_none : now ≡ mark_word methods ws i → IsKept methods words forces still seats ws (set vs id (record v { events = suc v.events; marks = set v.marks i now; reached = set v.reached i (mark_word methods ws i); reached_at = set v.reached_at i (suc v.events); grows = v.grows }))
       sets_none same =
           seen_more _ refl refl (omega arith) (fits_sets ws (growing vs) v fit mine i (mark_word methods ws i) now v.grows (λ j h e. marks_at methods ws i j h ∙ ap (λ w. is_set w j) (sym same) ∙ e))
 
@@ -296,7 +298,7 @@ module _ (methods words : ℕ) (forces : ℕ → (ℕ → Bool) → ℕ → Type
           ]
 
       -- where they add a mark, the seat is in growth
-      sets_some : now ≢ mark_word methods ws i → IsKept methods words forces seats (set ws (methods + 1 + i) now) (set vs id (record v { events = suc v.events; marks = set v.marks i now; reached = set v.reached i (mark_word methods ws i); reached_at = set v.reached_at i (suc v.events); grows = true }))
+      sets_some : now ≢ mark_word methods ws i → IsKept methods words forces still seats (set ws (methods + 1 + i) now) (set vs id (record v { events = suc v.events; marks = set v.marks i now; reached = set v.reached i (mark_word methods ws i); reached_at = set v.reached_at i (suc v.events); grows = true }))
       unfolding now
       sets_some other =
           replaced us w sound refl (inr (same_epoch, omega arith))
@@ -315,7 +317,7 @@ module _ (methods words : ℕ) (forces : ℕ → (ℕ → Bool) → ℕ → Type
           growth : growing (set vs id w) ≡ 0 → ⊥
           growth none = omega (arith, counted, part_of_sum digit vs id v here)
 
-          sound : AreSound methods words forces us (growing (set vs id w))
+          sound : AreSound methods words forces still us (growing (set vs id w))
           sound =
               record {
                 many = length-set ws (methods + 1 + i) now ∙ kept.sound.many;
@@ -328,7 +330,7 @@ module _ (methods words : ℕ) (forces : ℕ → (ℕ → Bool) → ℕ → Type
 
     -- ---- the epoch is raised
 
-    raises_once : v.grows ≡ true → 0 < v.parts → IsKept methods words forces seats (set ws 0 (epoch ws + 1)) (set vs id (record v { events = suc v.events; grows = false; raised = epoch ws + 1; raised_at = suc v.events }))
+    raises_once : v.grows ≡ true → 0 < v.parts → IsKept methods words forces still seats (set ws 0 (epoch ws + 1)) (set vs id (record v { events = suc v.events; grows = false; raised = epoch ws + 1; raised_at = suc v.events }))
     raises_once grows mine =
         replaced us w sound refl (inl (omega (arith, raised_epoch)))
         (λ u f. fits_later ws us _ _ u later f (λ e none. absurd (past u f e)))
@@ -358,7 +360,7 @@ module _ (methods words : ℕ) (forces : ℕ → (ℕ → Bool) → ℕ → Type
         counted : growing (set vs id w) + 1 ≡ growing vs
         counted = omega (arith, sum_at digit vs id v w here, ap {B = ℕ} (λ (b : Bool). cond b 1 0) grows)
 
-        sound : AreSound methods words forces us (growing (set vs id w))
+        sound : AreSound methods words forces still us (growing (set vs id w))
         sound =
             record {
               many = length-set ws 0 (epoch ws + 1) ∙ kept.sound.many;
@@ -371,7 +373,7 @@ module _ (methods words : ℕ) (forces : ℕ → (ℕ → Bool) → ℕ → Type
 
     -- ---- a settled word is raised
 
-    settles_method : (m : ℕ) → 0 < v.parts → May methods words forces v (settles m) → IsKept methods words forces seats (set ws (m + 1) (max (settled ws m) (v.epoch + 1))) (set vs id (record v { events = suc v.events; noted = set v.noted m (max (settled ws m) (v.epoch + 1)); noted_at = set v.noted_at m (suc v.events) }))
+    settles_method : (m : ℕ) → 0 < v.parts → May methods words forces still v (settles m) → IsKept methods words forces still seats (set ws (m + 1) (max (settled ws m) (v.epoch + 1))) (set vs id (record v { events = suc v.events; noted = set v.noted m (max (settled ws m) (v.epoch + 1)); noted_at = set v.noted_at m (suc v.events) }))
     settles_method m mine may =
         replaced us w sound refl (inr (same_epoch, omega arith))
         (λ u f. fits_later ws us _ _ u later f (fresh u f))
@@ -425,22 +427,22 @@ module _ (methods words : ℕ) (forces : ℕ → (ℕ → Bool) → ℕ → Type
             let at : k / 64 < words = quotient_below k words below in
             ap (λ w. is_set w (k % 64)) (fit.fresh e none (k / 64) (may.1.loaded (k / 64) at)) ∙ sym (same_marks k) ∙ marked
 
-        closes : growing (set vs id w) ≡ 0 → (q : ℕ) → q < methods → settled us q ≡ epoch us + 1 → (k : ℕ) → forces q (marks methods us) k → marks methods us k ≡ true
-        closes none q h e k forced =
+        closes : growing (set vs id w) ≡ 0 → (q : ℕ) → q < methods → settled us q ≡ epoch us + 1 → still q (marks methods us)
+        closes none q h e =
             elim (cases_eq (settled ws q) (epoch ws + 1)) [
-              | inl before ↦ same_marks k ∙ kept.sound.quiet (sym counted ∙ none) q h before k (monotone q k (marks methods us) (marks methods ws) h (λ j t. sym (same_marks j) ∙ t) forced)
+              | inl before ↦ subst (still q) (fun_ext (λ k. sym (same_marks k))) (kept.sound.quiet (sym counted ∙ none) q h before)
               | inr not_before ↦ elim (cases_eq q m) [
                 | inl is ↦
                     let e_here : settled us m ≡ epoch us + 1 = subst (λ n. settled us n ≡ epoch us + 1) is e in
                     let not_here : settled ws m ≢ epoch ws + 1 = subst (λ n. settled ws n ≢ epoch ws + 1) is not_before in
                     let now : v.epoch ≡ epoch ws = omega (arith, e_here, here_settled, same_epoch, not_here) in
-                    let forced_here : forces m (marks methods us) k = subst (λ n. forces n (marks methods us) k) is forced in
-                    same_marks k ∙ fit.looked k (may.2 k (monotone m k (marks methods us) (has v.look) may.0 (look_is_all now (sym counted ∙ none)) forced_here))
+                    let all : has v.look ≡ marks methods us = fun_ext (λ k. same_tests (has v.look k) (marks methods us k) (λ t. same_marks k ∙ fit.looked k t) (look_is_all now (sym counted ∙ none) k)) in
+                    subst (λ n. still n (marks methods us)) (sym is) (subst (still m) all may.2)
                 | inr d ↦ absurd (not_before (sym (other_settled q d) ∙ e ∙ ap (λ n. n + 1) same_epoch))
               ]
             ]
 
-        sound : AreSound methods words forces us (growing (set vs id w))
+        sound : AreSound methods words forces still us (growing (set vs id w))
         sound =
             record {
               many = length-set ws (m + 1) new ∙ kept.sound.many;
@@ -456,10 +458,10 @@ module _ (methods words : ℕ) (forces : ℕ → (ℕ → Bool) → ℕ → Type
 
     -- ---- seats are split and joined; the words are the same
 
-    pub splits : 1 < v.parts → v.grows ≡ false → IsKept methods words forces seats ws (set vs id (kept_part v) ++ given_part v ∷ [])
+    pub splits : 1 < v.parts → v.grows ≡ false → IsKept methods words forces still seats ws (set vs id (kept_part v) ++ given_part v ∷ [])
     splits several idle =
         record {
-          sound = subst (AreSound methods words forces ws) (sym counted) kept.sound;
+          sound = subst (AreSound methods words forces still ws) (sym counted) kept.sound;
           raised = λ bound all. kept.raised bound (λ j u at. elim (cases_eq j id) [
             | inl e ↦ subst (λ (x : View). x.raised ≤ bound) (same_some v u (sym here ∙ ap (get_elem? vs) (sym e) ∙ at)) (all id (kept_part v) (at_longer (set vs id (kept_part v)) (given_part v ∷ []) id (kept_part v) (set_again_here vs id v (kept_part v) here)))
             | inr d ↦ all j u (at_longer (set vs id (kept_part v)) (given_part v ∷ []) j u (set_else vs id j (kept_part v) d ∙ at))
@@ -493,10 +495,10 @@ module _ (methods words : ℕ) (forces : ℕ → (ℕ → Bool) → ℕ → Type
               idle = λ none. absurd (omega arith);
             }
 
-    pub joins : (other : ℕ) (w : View) → other ≢ id → get_elem? vs other ≡ some w → 0 < v.parts → v.grows ≡ false → w.grows ≡ false → IsKept methods words forces seats ws (set (set vs id (joined v w)) other spent)
+    pub joins : (other : ℕ) (w : View) → other ≢ id → get_elem? vs other ≡ some w → 0 < v.parts → v.grows ≡ false → w.grows ≡ false → IsKept methods words forces still seats ws (set (set vs id (joined v w)) other spent)
     joins other w apart at_other mine idle idle_other =
         record {
-          sound = subst (AreSound methods words forces ws) (sym counted) kept.sound;
+          sound = subst (AreSound methods words forces still ws) (sym counted) kept.sound;
           raised = λ bound all. kept.raised bound (λ j u at. let most = all id (joined v w) keeper in elim (cases_eq j id) [
             | inl e ↦ subst (λ (x : View). x.raised ≤ bound) (same_some v u (sym here ∙ ap (get_elem? vs) (sym e) ∙ at)) (omega (arith, most))
             | inr d ↦ elim (cases_eq j other) [
@@ -504,7 +506,7 @@ module _ (methods words : ℕ) (forces : ℕ → (ℕ → Bool) → ℕ → Type
               | inr d' ↦ all j u (set_else (set vs id (joined v w)) other j spent d' ∙ set_else vs id j (joined v w) d ∙ at)
             ]
           ]);
-          shared = omega (arith, sum_at part (set vs id (joined v w)) other w spent still, sum_at part vs id v (joined v w) here, kept.shared);
+          shared = omega (arith, sum_at part (set vs id (joined v w)) other w spent unchanged, sum_at part vs id v (joined v w) here, kept.shared);
           each = λ j u at. subst (λ n. Fits methods words forces ws n u) (sym counted) (elim (at_set (set vs id (joined v w)) other j spent u at) [
             | inl (e, is) ↦ subst (λ (x : View). Fits methods words forces ws (growing vs) x) is fits_spent
             | inr (d, was) ↦ elim (at_set vs id j (joined v w) u was) [
@@ -517,14 +519,14 @@ module _ (methods words : ℕ) (forces : ℕ → (ℕ → Bool) → ℕ → Type
         their : Fits methods words forces ws (growing vs) w
         their = kept.each other w at_other
 
-        still : get_elem? (set vs id (joined v w)) other ≡ some w
-        still = set_else vs id other (joined v w) apart ∙ at_other
+        unchanged : get_elem? (set vs id (joined v w)) other ≡ some w
+        unchanged = set_else vs id other (joined v w) apart ∙ at_other
 
         keeper : get_elem? (set (set vs id (joined v w)) other spent) id ≡ some (joined v w)
         keeper = set_else (set vs id (joined v w)) other id spent (λ e. apart (sym e)) ∙ set_again_here vs id v (joined v w) here
 
         counted : growing (set (set vs id (joined v w)) other spent) ≡ growing vs
-        counted = omega (arith, sum_at digit (set vs id (joined v w)) other w spent still, sum_at digit vs id v (joined v w) here, ap {B = ℕ} (λ (b : Bool). cond b 1 0) idle, ap {B = ℕ} (λ (b : Bool). cond b 1 0) idle_other)
+        counted = omega (arith, sum_at digit (set vs id (joined v w)) other w spent unchanged, sum_at digit vs id v (joined v w) here, ap {B = ℕ} (λ (b : Bool). cond b 1 0) idle, ap {B = ℕ} (λ (b : Bool). cond b 1 0) idle_other)
 
         fits_joined : Fits methods words forces ws (growing vs) (joined v w)
         fits_joined =
@@ -548,10 +550,10 @@ module _ (methods words : ℕ) (forces : ℕ → (ℕ → Bool) → ℕ → Type
     -- ---- any event
 
     -- a word that is only loaded stays
-    loaded_word : (at : ℕ) (w : View) → IsKept methods words forces seats ws (set vs id w) → IsKept methods words forces seats (set ws at (slice_index ws at)) (set vs id w)
-    loaded_word at w h = subst (λ us. IsKept methods words forces seats us (set vs id w)) (sym (set-get_or ws at 0)) h
+    loaded_word : (at : ℕ) (w : View) → IsKept methods words forces still seats ws (set vs id w) → IsKept methods words forces still seats (set ws at (slice_index ws at)) (set vs id w)
+    loaded_word at w h = subst (λ us. IsKept methods words forces still seats us (set vs id w)) (sym (set-get_or ws at 0)) h
 
-    word_event : (e : Event) → 0 < v.parts → slice_index ws (place methods e) < 2 ^ 64 → May methods words forces v e → IsKept methods words forces seats (set ws (place methods e) (written v e (slice_index ws (place methods e)))) (set vs id (seen v e (slice_index ws (place methods e))))
+    word_event : (e : Event) → 0 < v.parts → slice_index ws (place methods e) < 2 ^ 64 → May methods words forces still v e → IsKept methods words forces still seats (set ws (place methods e) (written v e (slice_index ws (place methods e)))) (set vs id (seen v e (slice_index ws (place methods e))))
     unfolding now
     word_event begins mine low may = loaded_word 0 _ (seen_more _ refl refl (omega arith) (fits_begins ws (growing vs) v fit mine))
     word_event (loads i) mine low may = loaded_word (methods + 1 + i) _ (seen_more _ refl refl (omega arith) (fits_loads ws (growing vs) v fit mine i))
@@ -563,33 +565,33 @@ module _ (methods words : ℕ) (forces : ℕ → (ℕ → Bool) → ℕ → Type
     word_event (sets m i bits) mine low may =
         elim (cases_eq (bit_or (mark_word methods ws i) bits) (mark_word methods ws i)) [
           | inl same ↦
-              subst (λ us. IsKept methods words forces seats us (set vs id (seen v (sets m i bits) (mark_word methods ws i))))
+              subst (λ us. IsKept methods words forces still seats us (set vs id (seen v (sets m i bits) (mark_word methods ws i))))
               (sym (ap (set ws (methods + 1 + i)) same ∙ set-get_or ws (methods + 1 + i) 0))
-              (subst (λ b. IsKept methods words forces seats ws (set vs id (after_bits v i bits (mark_word methods ws i) b))) (sym (eq-eqb (bit_or (mark_word methods ws i) bits) (mark_word methods ws i) same)) (none same))
+              (subst (λ b. IsKept methods words forces still seats ws (set vs id (after_bits v i bits (mark_word methods ws i) b))) (sym (eq-eqb (bit_or (mark_word methods ws i) bits) (mark_word methods ws i) same)) (none same))
           | inr other ↦
-              subst (λ b. IsKept methods words forces seats (set ws (methods + 1 + i) (bit_or (mark_word methods ws i) bits)) (set vs id (after_bits v i bits (mark_word methods ws i) b))) (sym (ne_eqb (bit_or (mark_word methods ws i) bits) (mark_word methods ws i) other)) (more other)
+              subst (λ b. IsKept methods words forces still seats (set ws (methods + 1 + i) (bit_or (mark_word methods ws i) bits)) (set vs id (after_bits v i bits (mark_word methods ws i) b))) (sym (ne_eqb (bit_or (mark_word methods ws i) bits) (mark_word methods ws i) other)) (more other)
         ]
       where
-        none : bit_or (mark_word methods ws i) bits ≡ mark_word methods ws i → IsKept methods words forces seats ws (set vs id (after_bits v i bits (mark_word methods ws i) true))
+        none : bit_or (mark_word methods ws i) bits ≡ mark_word methods ws i → IsKept methods words forces still seats ws (set vs id (after_bits v i bits (mark_word methods ws i) true))
         none same = sets_none m i bits may low mine same
 
-        more : bit_or (mark_word methods ws i) bits ≢ mark_word methods ws i → IsKept methods words forces seats (set ws (methods + 1 + i) (bit_or (mark_word methods ws i) bits)) (set vs id (after_bits v i bits (mark_word methods ws i) false))
+        more : bit_or (mark_word methods ws i) bits ≢ mark_word methods ws i → IsKept methods words forces still seats (set ws (methods + 1 + i) (bit_or (mark_word methods ws i) bits)) (set vs id (after_bits v i bits (mark_word methods ws i) false))
         more other = sets_some m i bits may low mine other
 
-  pub event_keeps : (seats : ℕ) (ws : List ℕ) (vs : List View) (us : List ℕ) (ns : List View) → IsKept methods words forces seats ws vs → Happens methods words forces ws vs us ns → IsKept methods words forces seats us ns
+  pub event_keeps : (seats : ℕ) (ws : List ℕ) (vs : List View) (us : List ℕ) (ns : List View) → IsKept methods words forces still seats ws vs → Happens methods words forces still ws vs us ns → IsKept methods words forces still seats us ns
   event_keeps seats ws vs us ns kept (at_word id v e here mine low may us_are ns_are) =
-      subst (λ (x : List ℕ). IsKept methods words forces seats x ns) (sym us_are)
-      (subst (λ (y : List View). IsKept methods words forces seats (set ws (place methods e) (written v e (slice_index ws (place methods e)))) y) (sym ns_are) (word_event seats ws vs kept id v here e mine low may))
+      subst (λ (x : List ℕ). IsKept methods words forces still seats x ns) (sym us_are)
+      (subst (λ (y : List View). IsKept methods words forces still seats (set ws (place methods e) (written v e (slice_index ws (place methods e)))) y) (sym ns_are) (word_event seats ws vs kept id v here e mine low may))
   event_keeps seats ws vs us ns kept (by_split id v here several idle us_are ns_are) =
-      subst (λ (x : List ℕ). IsKept methods words forces seats x ns) (sym us_are)
-      (subst (λ (y : List View). IsKept methods words forces seats ws y) (sym ns_are) (splits seats ws vs kept id v here several idle))
+      subst (λ (x : List ℕ). IsKept methods words forces still seats x ns) (sym us_are)
+      (subst (λ (y : List View). IsKept methods words forces still seats ws y) (sym ns_are) (splits seats ws vs kept id v here several idle))
   event_keeps seats ws vs us ns kept (by_join id other v w here apart there mine idle idle_other us_are ns_are) =
-      subst (λ (x : List ℕ). IsKept methods words forces seats x ns) (sym us_are)
-      (subst (λ (y : List View). IsKept methods words forces seats ws y) (sym ns_are) (joins seats ws vs kept id v here other w apart there mine idle idle_other))
+      subst (λ (x : List ℕ). IsKept methods words forces still seats x ns) (sym us_are)
+      (subst (λ (y : List View). IsKept methods words forces still seats ws y) (sym ns_are) (joins seats ws vs kept id v here other w apart there mine idle idle_other))
 
   -- ---- from the start on
 
-  pub opening_kept : (seats : ℕ) → words < 2 ^ 32 → IsKept methods words forces seats (replicate (methods + 1 + words) 0) (newcomer methods words seats ∷ [])
+  pub opening_kept : (seats : ℕ) → words < 2 ^ 32 → IsKept methods words forces still seats (replicate (methods + 1 + words) 0) (newcomer methods words seats ∷ [])
   opening_kept seats few =
       record {
         sound = record {
@@ -615,8 +617,8 @@ module _ (methods words : ℕ) (forces : ℕ → (ℕ → Bool) → ℕ → Type
       one zero v e = subst (λ (x : View). Fits methods words forces (replicate (methods + 1 + words) 0) (growing (newcomer methods words seats ∷ [])) x) (same_some (newcomer methods words seats) v e) (fits_newcomer methods words seats (replicate (methods + 1 + words) 0) (growing (newcomer methods words seats ∷ [])))
       one (suc id) v e = absurd (some-ne-none v (sym e))
 
-  pub run_keeps : (seats : ℕ) (ws : List ℕ) (vs : List View) → words < 2 ^ 32 → Follows methods words forces seats ws vs → IsKept methods words forces seats ws vs
+  pub run_keeps : (seats : ℕ) (ws : List ℕ) (vs : List View) → words < 2 ^ 32 → Follows methods words forces still seats ws vs → IsKept methods words forces still seats ws vs
   run_keeps seats us ns few (opened ws vs ws_are vs_are) =
-      subst (λ (x : List ℕ). IsKept methods words forces seats x vs) (sym ws_are)
-      (subst (λ (y : List View). IsKept methods words forces seats (replicate (methods + 1 + words) 0) y) (sym vs_are) (opening_kept seats few))
+      subst (λ (x : List ℕ). IsKept methods words forces still seats x vs) (sym ws_are)
+      (subst (λ (y : List View). IsKept methods words forces still seats (replicate (methods + 1 + words) 0) y) (sym vs_are) (opening_kept seats few))
   run_keeps seats last view few (after ws vs us ns run event) = event_keeps seats ws vs us ns (run_keeps seats ws vs few run) event

@@ -50,12 +50,12 @@ module _ (methods words : ℕ) where
   seen-shape v (notes m) n s = (s.0, s.1, s.2, s.3, s.4, length-set v.noted m n ∙ s.5, length-set v.noted_at m (suc v.events) ∙ s.6)
   seen-shape v (settles m) n s = (s.0, s.1, s.2, s.3, s.4, length-set v.noted m (max n (v.epoch + 1)) ∙ s.5, length-set v.noted_at m (suc v.events) ∙ s.6)
 
-module _ (methods words : ℕ) (forces : ℕ → (ℕ → Bool) → ℕ → Type 0) (monotone : IsMonotone forces methods) (seats : ℕ) where
+module _ (methods words : ℕ) (forces : ℕ → (ℕ → Bool) → ℕ → Type 0) (still : ℕ → (ℕ → Bool) → Type 0) (monotone : IsMonotone forces methods) (seats : ℕ) where
   module _ (ws : List ℕ) (growth : ℕ) (v : View) (f : Fits methods words forces ws growth v) (sits : Sits methods words forces v) where
     marks_word : (i j : ℕ) → j < 64 → is_set (get_or v.marks i 0) j ≡ true → is_set (mark_word methods ws i) j ≡ true
     marks_word i j h e = sym (marks_at methods ws i j h) ∙ f.marked (64 * i + j) (has_at v.marks i j h ∙ e)
 
-    grown : (e : Event) → May methods words forces v e → IsWithin (has v.marks) (has (seen v e (slice_index ws (place methods e))).marks)
+    grown : (e : Event) → May methods words forces still v e → IsWithin (has v.marks) (has (seen v e (slice_index ws (place methods e))).marks)
     grown begins may = λ k h. h
     grown raises may = λ k h. h
     grown asks may = λ k h. h
@@ -65,7 +65,7 @@ module _ (methods words : ℕ) (forces : ℕ → (ℕ → Bool) → ℕ → Type
     grown (loads i) may = set_grows v.marks i (mark_word methods ws i) (omega (arith, may, sits.shape.2)) (λ j h e. marks_word i j h e)
     grown (sets m i bits) may = set_grows v.marks i (bit_or (mark_word methods ws i) bits) (omega (arith, may.0, sits.shape.2)) (λ j h e. is_set-or (mark_word methods ws i) bits j ∙ or_left _ _ (marks_word i j h e))
 
-    looked : (e : Event) → May methods words forces v e → IsWithin (has (seen v e (slice_index ws (place methods e))).look) (has (seen v e (slice_index ws (place methods e))).marks)
+    looked : (e : Event) → May methods words forces still v e → IsWithin (has (seen v e (slice_index ws (place methods e))).look) (has (seen v e (slice_index ws (place methods e))).marks)
     looked begins may = sits.looked
     looked raises may = sits.looked
     looked asks may = sits.looked
@@ -85,7 +85,7 @@ module _ (methods words : ℕ) (forces : ℕ → (ℕ → Bool) → ℕ → Type
           | inr d ↦ omega (arith, get_or-set_other v.noted m q n 0 d)
         ]
 
-    noted : (e : Event) → May methods words forces v e → (q : ℕ) → q < methods → slice_index v.noted q ≤ slice_index (seen v e (slice_index ws (place methods e))).noted q
+    noted : (e : Event) → May methods words forces still v e → (q : ℕ) → q < methods → slice_index v.noted q ≤ slice_index (seen v e (slice_index ws (place methods e))).noted q
     noted begins may = λ q h. omega arith
     noted raises may = λ q h. omega arith
     noted asks may = λ q h. omega arith
@@ -115,7 +115,7 @@ module _ (methods words : ℕ) (forces : ℕ → (ℕ → Bool) → ℕ → Type
     raised (loads i) = omega arith
     raised (sets m i bits) = omega arith
 
-    further : (e : Event) → May methods words forces v e → IsFurther methods words forces (place methods e) v (slice_index ws (place methods e)) (seen v e (slice_index ws (place methods e)))
+    further : (e : Event) → May methods words forces still v e → IsFurther methods words forces (place methods e) v (slice_index ws (place methods e)) (seen v e (slice_index ws (place methods e)))
     further e may =
         record {
           marks = grown e may;
@@ -125,11 +125,11 @@ module _ (methods words : ℕ) (forces : ℕ → (ℕ → Bool) → ℕ → Type
           epoch = λ at. let same : slice_index ws (place methods e) ≡ epoch ws = ap (slice_index ws) at in (omega (arith, same, f.found), omega (arith, same, f.raised));
         }
 
-  few_marks : (ws : List ℕ) (vs : List View) → IsKept methods words forces seats ws vs → epoch ws ≤ 64 * words
+  few_marks : (ws : List ℕ) (vs : List View) → IsKept methods words forces still seats ws vs → epoch ws ≤ 64 * words
   few_marks ws vs kept = omega (arith, kept.sound.raises, count_below-le (marks methods ws) (64 * words))
 
   -- the view of a seat in any state under the rule
-  seat_sits : (ws : List ℕ) (vs : List View) (id : ℕ) (v : View) → IsKept methods words forces seats ws vs → get_elem? vs id ≡ some v → 0 < v.parts → IsShaped methods words v → IsWithin (has v.look) (has v.marks) → Sits methods words forces v
+  seat_sits : (ws : List ℕ) (vs : List View) (id : ℕ) (v : View) → IsKept methods words forces still seats ws vs → get_elem? vs id ≡ some v → 0 < v.parts → IsShaped methods words v → IsWithin (has v.look) (has v.marks) → Sits methods words forces v
   seat_sits ws vs id v kept here mine shape looked =
       let f = kept.each id v here in
       let few = few_marks ws vs kept in
@@ -144,7 +144,7 @@ module _ (methods words : ℕ) (forces : ℕ → (ℕ → Bool) → ℕ → Type
         noted = λ m h. omega (arith, f.noted m h, kept.sound.settles m h, few);
       }
 
-  pub allows : (slots id : ℕ) (me : Me (Unit {0}) View) (e : Event) (f : ℕ → ℕ) (told : ℕ → Me (Unit {0}) View → Type 0) → me.1 ≡ [] → Sits methods words forces me.0 → May methods words forces me.0 e → ((n : ℕ) → (place methods e ≡ 0 → n + 1 < 2 ^ 64) → f n ≡ written me.0 e n) → ((n : ℕ) (after : Me (Unit {0}) View) → IsMade methods words forces e me n after → told n after) → Allows (Holds methods words forces seats) slots id me (place methods e) f told
+  pub allows : (slots id : ℕ) (me : Me (Unit {0}) View) (e : Event) (f : ℕ → ℕ) (told : ℕ → Me (Unit {0}) View → Type 0) → me.1 ≡ [] → Sits methods words forces me.0 → May methods words forces still me.0 e → ((n : ℕ) → (place methods e ≡ 0 → n + 1 < 2 ^ 64) → f n ≡ written me.0 e n) → ((n : ℕ) (after : Me (Unit {0}) View) → IsMade methods words forces e me n after → told n after) → Allows (Holds methods words forces still seats) slots id me (place methods e) f told
   allows slots id me e f told bare sits may same tell s kept homes here low =
       (w, keeps, tt, kept_now, tell n (w, me.1) made)
     where
@@ -160,11 +160,11 @@ module _ (methods words : ℕ) (forces : ℕ → (ℕ → Bool) → ℕ → Type
       few : place methods e ≡ 0 → n + 1 < 2 ^ 64
       few at = let first : n ≡ epoch s.words = ap (slice_index s.words) at in omega (arith, first, few_marks s.words s.views kept, kept.sound.few)
 
-      kept_after : IsKept methods words forces seats (set s.words (place methods e) (written me.0 e n)) (set s.views id w)
-      kept_after = event_keeps methods words forces monotone seats s.words s.views _ _ kept (at_word id me.0 e here sits.parts (omega (arith, low)) may refl refl)
+      kept_after : IsKept methods words forces still seats (set s.words (place methods e) (written me.0 e n)) (set s.views id w)
+      kept_after = event_keeps methods words forces still monotone seats s.words s.views _ _ kept (at_word id me.0 e here sits.parts (omega (arith, low)) may refl refl)
 
-      kept_now : IsKept methods words forces seats (set s.words (place methods e) (f n)) (set s.views id w)
-      kept_now = subst (λ a. IsKept methods words forces seats (set s.words (place methods e) a) (set s.views id w)) (sym (same n few)) kept_after
+      kept_now : IsKept methods words forces still seats (set s.words (place methods e) (f n)) (set s.views id w)
+      kept_now = subst (λ a. IsKept methods words forces still seats (set s.words (place methods e) a) (set s.views id w)) (sym (same n few)) kept_after
 
       fits : Fits methods words forces s.words (growing s.views) me.0
       fits = kept.each id me.0 here

@@ -102,13 +102,13 @@ given_part v = record v { parts = 1 }
 abbrev pub joined : View → View → View
 joined v w = record v { events = suc v.events; parts = v.parts + w.parts; marks = bits_of_both v.marks w.marks; raised = max v.raised w.raised; left = max v.left w.left }
 
--- methods, words, and what each method forces
-module _ (methods words : ℕ) (forces : ℕ → (ℕ → Bool) → ℕ → Type 0) where
-  -- when a seat may do it: bits are marks that a method forces at its whole look; a method is settled where it forces nothing else
+-- methods, words, what each method forces, and where it is still
+module _ (methods words : ℕ) (forces : ℕ → (ℕ → Bool) → ℕ → Type 0) (still : ℕ → (ℕ → Bool) → Type 0) where
+  -- when a seat may do it: bits are marks that a method forces at its whole look; a method is settled where it is still there
   abbrev pub May : View → Event → Type 0
   May v (sets m i bits) = (i < words) × (m < methods) × (bits < 2 ^ 64) × IsWhole words v × ((j : ℕ) → is_set bits j ≡ true → forces m (has v.look) (64 * i + j))
   May v raises = v.grows ≡ true
-  May v (settles m) = (m < methods) × IsWhole words v × ((k : ℕ) → forces m (has v.look) k → has v.look k ≡ true)
+  May v (settles m) = (m < methods) × IsWhole words v × still m (has v.look)
   May v begins = Unit {0}
   May v (loads i) = i < words
   May v (notes m) = m < methods

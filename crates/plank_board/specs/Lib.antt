@@ -1,4 +1,5 @@
 pub mod Words
+pub mod Stills
 pub mod Events
 pub mod Rule
 pub mod Seats

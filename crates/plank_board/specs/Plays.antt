@@ -9,11 +9,11 @@ use Rattle.plank_board.specs.Events.{Event, begins, loads, sets, raises, notes, 
 use Rattle.plank_board.specs.Rule.{IsKept}
 use Rattle.plank_board.specs.Seats.{Sits}
 
-module _ (methods words : ℕ) (forces : ℕ → (ℕ → Bool) → ℕ → Type 0) where
-  -- the rule of the table whose words and views these are
-  abbrev pub Holds : ℕ → State (Unit {0}) View → Type 0
-  Holds seats s = IsKept methods words forces seats s.words s.views
+-- the rule of the table whose words and views these are
+abbrev pub Holds : (methods words : ℕ) → (ℕ → (ℕ → Bool) → ℕ → Type 0) → (ℕ → (ℕ → Bool) → Type 0) → ℕ → State (Unit {0}) View → Type 0
+Holds methods words forces still seats s = IsKept methods words forces still seats s.words s.views
 
+module _ (methods words : ℕ) (forces : ℕ → (ℕ → Bool) → ℕ → Type 0) where
   -- what a seat has seen only grows; at the epoch, which is word 0, it finds no less than it found or raised before
   pub record IsFurther (at : ℕ) (v : View) (n : ℕ) (w : View) : Type 0 where
     pub marks : IsWithin (has v.marks) (has w.marks)

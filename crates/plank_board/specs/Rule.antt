@@ -19,15 +19,6 @@ module _ (methods words : ℕ) (forces : ℕ → (ℕ → Bool) → ℕ → Type
   abbrev pub AreForced : (ℕ → Bool) → Type 0
   AreForced a = (c : ℕ → Bool) → IsClosed forces methods c → IsWithin a c
 
-  -- the words, where so many seats are in growth
-  pub record AreSound (ws : List ℕ) (growth : ℕ) : Type 0 where
-    pub many : length ws ≡ methods + 1 + words
-    pub few : words < 2 ^ 32
-    pub forced : AreForced (marks methods ws)
-    pub raises : epoch ws + growth ≤ count_below (marks methods ws) (64 * words)
-    pub settles : (m : ℕ) → m < methods → settled ws m ≤ epoch ws + 1
-    pub quiet : growth ≡ 0 → (m : ℕ) → m < methods → settled ws m ≡ epoch ws + 1 → (k : ℕ) → forces m (marks methods ws) k → marks methods ws k ≡ true
-
   -- what a seat has seen, beside the words
   pub record Fits (ws : List ℕ) (growth : ℕ) (v : View) : Type 0 where
     pub marked : IsWithin (has v.marks) (marks methods ws)
@@ -42,12 +33,22 @@ module _ (methods words : ℕ) (forces : ℕ → (ℕ → Bool) → ℕ → Type
     pub fresh : v.epoch ≡ epoch ws → growth ≡ 0 → (i : ℕ) → v.epoch_at < slice_index v.look_at i → slice_index v.look i ≡ mark_word methods ws i
     pub idle : v.parts ≡ 0 → (v.grows ≡ false) × (v.raised ≡ 0)
 
-  -- The rule. The epoch is 0 or the last raise of some seat: nothing below it bounds all of them
-  pub record IsKept (seats : ℕ) (ws : List ℕ) (vs : List View) : Type 0 where
-    pub sound : AreSound ws (growing vs)
-    pub raised : (bound : ℕ) → ((id : ℕ) (v : View) → get_elem? vs id ≡ some v → v.raised ≤ bound) → epoch ws ≤ bound
-    pub shared : parts_of vs ≡ seats
-    pub each : (id : ℕ) (v : View) → get_elem? vs id ≡ some v → Fits ws (growing vs) v
+  module _ (still : ℕ → (ℕ → Bool) → Type 0) where
+    -- the words, where so many seats are in growth
+    pub record AreSound (ws : List ℕ) (growth : ℕ) : Type 0 where
+      pub many : length ws ≡ methods + 1 + words
+      pub few : words < 2 ^ 32
+      pub forced : AreForced (marks methods ws)
+      pub raises : epoch ws + growth ≤ count_below (marks methods ws) (64 * words)
+      pub settles : (m : ℕ) → m < methods → settled ws m ≤ epoch ws + 1
+      pub quiet : growth ≡ 0 → (m : ℕ) → m < methods → settled ws m ≡ epoch ws + 1 → still m (marks methods ws)
+
+    -- The rule. The epoch is 0 or the last raise of some seat: nothing below it bounds all of them
+    pub record IsKept (seats : ℕ) (ws : List ℕ) (vs : List View) : Type 0 where
+      pub sound : AreSound ws (growing vs)
+      pub raised : (bound : ℕ) → ((id : ℕ) (v : View) → get_elem? vs id ≡ some v → v.raised ≤ bound) → epoch ws ≤ bound
+      pub shared : parts_of vs ≡ seats
+      pub each : (id : ℕ) (v : View) → get_elem? vs id ≡ some v → Fits ws (growing vs) v
 
 -- some seat has left, none is in growth, and none raised the epoch later than it left
 pub record HaveLeft (vs : List View) : Type 0 where

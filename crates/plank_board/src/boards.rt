@@ -5,6 +5,7 @@ ghost use Rattle.plank_bits.specs.Forced.{IsLeast};
 ghost use Rattle.plank_board.specs.Events.{newcomer, kept_part, given_part, joined, spent};
 ghost use Rattle.plank_board.specs.Rule.{AreForced};
 ghost use Rattle.plank_board.specs.Seats.{Sits};
+ghost use Rattle.plank_board.specs.Stills.{AreStill};
 ghost use Rattle.plank_board.specs.Words.{mark_word};
 
 use crate::forcings::Forcing;
@@ -95,6 +96,7 @@ impl<N: Named> Board<N> {
         requires methods { N.methods ≡ F.method_count forcing.now }
         requires words { N.words ≡ F.word_count forcing.now }
         requires forces { (m : ℕ) (marks : ℕ → Bool) (k : ℕ) → N.forces m marks k ↔ F.forces forcing.now m marks k }
+        requires still { (m : ℕ) (marks : ℕ → Bool) → N.still m marks ↔ F.still forcing.now m marks }
         requires seats { (0 < seats) × (seats ≤ 64) }
         ensures board { IfOk result (λ r. (r.0.seats ≡ seats) × (r.1.table ≡ r.0.table)) }
         ensures seat { IfOk result (λ r. r.1.view ≡ newcomer N.methods N.words seats) }
@@ -162,8 +164,8 @@ impl<N: Named> Board<N> {
         self.table.shared.join_seat::<Joins>(&mut seat.place, place);
     }
 
-    /// The words of marks, once there is no other seat. They are the least closed set where the seat
-    /// left, after its last raise and those of all that it took in.
+    /// The words of marks, once there is no other seat. They are the least closed set, at which every method
+    /// is still, where the seat left after its last raise and those of all that it took in.
     pub fn close(self, seat: Seat<N>) -> MarkWords
         requires board { seat.table ≡ self.table }
         requires parts { seat.view.parts ≡ self.seats }
@@ -171,6 +173,7 @@ impl<N: Named> Board<N> {
         ensures seen { IsWithin (has seat.view.marks) (has result) }
         ensures forced { AreForced N.methods N.words N.forces (has result) }
         ensures least { seat.view.raised < seat.view.left → IsLeast N.forces N.methods (has result) }
+        ensures still { seat.view.raised < seat.view.left → AreStill N.still N.methods (has result) }
     {
         let Board {
             table,

@@ -40,7 +40,7 @@ impl<N: Named> Board<N> {
     // Sets bits of a word of marks, which the method m forces.
     pub(crate) fn set_marks(&self, place: &mut Place, m: u32, i: u32, bits: u64) -> u64
         requires ready { IsReady N.methods N.words N.forces self.now.table place.old }
-        requires may { May N.methods N.words N.forces place.old.me.0 (sets m i bits) }
+        requires may { May N.methods N.words N.forces N.still place.old.me.0 (sets m i bits) }
         ensures at { place.new.table_id ≡ place.old.table_id }
         ensures made { IsMade N.methods N.words N.forces (sets m i bits) place.old.me result place.new.me }
     {
@@ -53,7 +53,7 @@ impl<N: Named> Board<N> {
     // Raises the epoch.
     pub(crate) fn raise(&self, place: &mut Place) -> u64
         requires ready { IsReady N.methods N.words N.forces self.now.table place.old }
-        requires may { May N.methods N.words N.forces place.old.me.0 raises }
+        requires may { May N.methods N.words N.forces N.still place.old.me.0 raises }
         ensures at { place.new.table_id ≡ place.old.table_id }
         ensures made { IsMade N.methods N.words N.forces raises place.old.me result place.new.me }
     {
@@ -83,7 +83,7 @@ impl<N: Named> Board<N> {
     // Raises the settled word of a method, if it is lower.
     pub(crate) fn settle(&self, place: &mut Place, m: u32, next: u64) -> u64
         requires ready { IsReady N.methods N.words N.forces self.now.table place.old }
-        requires may { May N.methods N.words N.forces place.old.me.0 (settles m) }
+        requires may { May N.methods N.words N.forces N.still place.old.me.0 (settles m) }
         requires next { next ≡ place.old.me.0.epoch + 1 }
         ensures at { place.new.table_id ≡ place.old.table_id }
         ensures made { IsMade N.methods N.words N.forces (settles m) place.old.me result place.new.me }
@@ -105,7 +105,7 @@ impl<N: Named> Board<N> {
     // Loads the epoch, where all methods were settled, and leaves there if it is still the look's.
     pub(crate) fn leave(&self, place: &mut Place) -> u64
         requires ready { IsReady N.methods N.words N.forces self.now.table place.old }
-        requires may { May N.methods N.words N.forces place.old.me.0 leaves }
+        requires may { May N.methods N.words N.forces N.still place.old.me.0 leaves }
         ensures at { place.new.table_id ≡ place.old.table_id }
         ensures made { IsMade N.methods N.words N.forces leaves place.old.me result place.new.me }
     {

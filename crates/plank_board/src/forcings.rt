@@ -1,6 +1,7 @@
 ghost use Rattle.std.specs.Prelude.{◌≡◌, ℕ, ◌+◌, ◌*◌, ◌<◌, ◌↔◌, Bool, length, IsTrue, IfOk};
-ghost use Rattle.plank_bits.specs.Words.{has};
+ghost use Rattle.plank_bits.specs.Words.{has, IsWithin};
 ghost use Rattle.plank_bits.specs.Forced.{IsMonotone, IsBounded};
+ghost use Rattle.plank_board.specs.Stills.{IsClosing};
 
 use plank_base::OutOfMemory;
 use plank_bits::{MarkWords, Steps};
@@ -20,11 +21,18 @@ pub trait Forcing: Sync {
     /// That a method forces a mark, where these marks are set.
     ghost forces: { Self → ℕ → (ℕ → Bool) → ℕ → Type 0 };
 
+    /// That a method asks nothing more at these marks: what a run shows that finds no other mark there. It may say
+    /// more than that it forces none.
+    ghost still: { Self → ℕ → (ℕ → Bool) → Type 0 };
+
     /// More marks force more.
     ghost monotone: { (f : Self) → IsMonotone (forces f) (method_count f) };
 
     /// Only marks of the words are forced.
     ghost bounded: { (f : Self) → IsBounded (forces f) (method_count f) (64 * word_count f) };
+
+    /// What is still forces no other mark.
+    ghost closing: { (f : Self) → IsClosing (forces f) (still f) (method_count f) };
 
     /// The number of methods, which are numbered from 0.
     fn methods(&self) -> u32
@@ -47,5 +55,12 @@ pub trait Forcing: Sync {
         ensures words { IfOk result (λ found. length found ≡ word_count self.now) }
         ensures found { IfOk result (λ found. (k : ℕ) → IsTrue (has found k) ↔
             forces self.now m (has marks.now) k) }
+        ensures still { IfOk result (λ found. IsWithin (has found) (has marks.now) → still self.now m (has marks.now)) }
         ensures step { steps.new ≡ steps.old + 1 };
+
+    /// Whether a run of the method is quick: such methods are run before others. A hint.
+    fn is_quick(&self, m: u32) -> bool;
+
+    /// Whether the method may force more where a mark of the word is new. A hint.
+    fn is_woken(&self, m: u32, word: u32) -> bool;
 }

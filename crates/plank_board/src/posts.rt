@@ -70,6 +70,7 @@ impl<N: Named> Board<N> {
         requires method { m < N.methods }
         requires words { length found.now ≡ N.words }
         requires forced { (k : ℕ) → IsTrue (has found.now k) ↔ N.forces m (has seat.old.view.look) k }
+        requires still { IsWithin (has found.now) (has seat.old.view.look) → N.still m (has seat.old.view.look) }
         ensures seat { StaysSeated N.methods N.words N.forces seat.old seat.new }
         ensures settled { (result ≡ Settled) ↔ IsWithin (has found.now) (has seat.old.view.look) }
         ensures told { IsPosted result m found.now seat.old.view seat.new.view }

@@ -14,7 +14,7 @@ pub struct Law<N> {
 }
 
 impl<N: Named> TableRule<(), View, u64> for Law<N> {
-    ghost holds = { Holds N.methods N.words N.forces };
+    ghost holds = { Holds N.methods N.words N.forces N.still };
 
     ghost first = { newcomer N.methods N.words };
 }

@@ -4,13 +4,14 @@ ghost use Rattle.plank_bits.specs.Words.{has};
 ghost use Rattle.plank_bits.specs.Forced.{IsLeast};
 ghost use Rattle.plank_crew.specs.Names.{IsNameOf};
 ghost use Rattle.plank_board.specs.Seats.{IsSeatOfOne};
+ghost use Rattle.plank_board.specs.Stills.{AreStill};
 ghost use Rattle.plank_crew.specs.Desks.{HasLeft};
 
 use crate::desks::{Desk, join_desks, make_desks};
 use crate::workers::work;
 use plank_base::OutOfMemory;
-use plank_bits::{Forcing, MarkWords, Steps};
-use plank_board::{Board, Named};
+use plank_bits::{MarkWords, Steps};
+use plank_board::{Board, Forcing, Named};
 use plank_io::Gate;
 use std::alloc::Global;
 use std::marker::Brand;
@@ -27,7 +28,7 @@ fn work_counted<N: Named, F: Forcing, G: Gate, L: Ledger>(
     desk: &mut Desk<N>,
     blank: Blank,
 )
-    requires name { IsNameOf N.methods N.words N.forces (F.method_count forcing.now) (F.word_count forcing.now) (F.forces forcing.now) }
+    requires name { IsNameOf N.methods N.words N.forces N.still (F.method_count forcing.now) (F.word_count forcing.now) (F.forces forcing.now) (F.still forcing.now) }
     requires some { 0 < N.methods }
     requires desk { IsSeatOfOne board.now.table desk.old.seat }
     requires blank { (blank.name ≡ L.name) × (blank.parts ≡ L.parts) × (0 < blank.parts) }
@@ -56,7 +57,7 @@ fn work_at<N: Named, F: Forcing, G: Gate>(
     gate: &G,
     desk: &mut Desk<N>,
 )
-    requires name { IsNameOf N.methods N.words N.forces (F.method_count forcing.now) (F.word_count forcing.now) (F.forces forcing.now) }
+    requires name { IsNameOf N.methods N.words N.forces N.still (F.method_count forcing.now) (F.word_count forcing.now) (F.forces forcing.now) (F.still forcing.now) }
     requires some { 0 < N.methods }
     requires desk { IsSeatOfOne board.now.table desk.old.seat }
     ensures { IsSeatOfOne board.now.table desk.new.seat × HasLeft desk.new.left desk.new.seat }
@@ -73,7 +74,7 @@ fn work_all<N: Named, R: Threads + Sync, F: Forcing, G: Gate>(
     gate: &G,
     desks: &mut [Desk<N>],
 )
-    requires name { IsNameOf N.methods N.words N.forces (F.method_count forcing.now) (F.word_count forcing.now) (F.forces forcing.now) }
+    requires name { IsNameOf N.methods N.words N.forces N.still (F.method_count forcing.now) (F.word_count forcing.now) (F.forces forcing.now) (F.still forcing.now) }
     requires some { 0 < N.methods }
     requires desks { All (λ d. IsSeatOfOne board.now.table d.seat) desks.old }
     ensures { All (λ d. IsSeatOfOne board.now.table d.seat × HasLeft d.left d.seat) desks.new }
@@ -83,7 +84,7 @@ fn work_all<N: Named, R: Threads + Sync, F: Forcing, G: Gate>(
         desks,
         64,
         &|_place: usize, desk: &mut Desk<N>|
-            requires name { IsNameOf N.methods N.words N.forces (F.method_count forcing.now) (F.word_count forcing.now) (F.forces forcing.now) }
+            requires name { IsNameOf N.methods N.words N.forces N.still (F.method_count forcing.now) (F.word_count forcing.now) (F.forces forcing.now) (F.still forcing.now) }
             requires some { 0 < N.methods }
             requires desk { IsSeatOfOne board.now.table desk.old.seat }
             ensures { IsSeatOfOne board.entry.now.table desk.new.seat × HasLeft desk.new.left desk.new.seat }
@@ -99,11 +100,12 @@ fn crew_named<N: Named, R: Threads + Sync, F: Forcing, G: Gate>(
     workers: u32,
     gate: &G,
 ) -> Result<MarkWords, OutOfMemory>
-    requires name { IsNameOf N.methods N.words N.forces (F.method_count forcing.now) (F.word_count forcing.now) (F.forces forcing.now) }
+    requires name { IsNameOf N.methods N.words N.forces N.still (F.method_count forcing.now) (F.word_count forcing.now) (F.forces forcing.now) (F.still forcing.now) }
     requires some { 0 < N.methods }
     requires workers { (0 < workers) × (workers ≤ 64) }
     ensures words { IfOk result (λ marks. length marks ≡ N.words) }
     ensures least { IfOk result (λ marks. IsLeast N.forces N.methods (has marks)) }
+    ensures still { IfOk result (λ marks. AreStill N.still N.methods (has marks)) }
 {
     let (board, seat) = Board::<N>::new(alloc, forcing, workers)?;
     let mut desks = make_desks(alloc, &board, seat, workers)?;
@@ -118,7 +120,7 @@ fn crew_named<N: Named, R: Threads + Sync, F: Forcing, G: Gate>(
 }
 
 /// The least closed marks of a forcing, found by so many workers on one board, each in a thread of its own
-/// where a thread can be had. Want of memory of one worker is the crew's.
+/// where a thread can be had. Every method is still there. Want of memory of one worker is the crew's.
 pub fn crew<R: Threads + Sync, F: Forcing, G: Gate>(
     rt: &R,
     alloc: Global,
@@ -130,6 +132,7 @@ pub fn crew<R: Threads + Sync, F: Forcing, G: Gate>(
     requires workers { (0 < workers) × (workers ≤ 64) }
     ensures words { IfOk result (λ marks. length marks ≡ F.word_count forcing.now) }
     ensures least { IfOk result (λ marks. IsLeast (F.forces forcing.now) (F.method_count forcing.now) (has marks)) }
+    ensures still { IfOk result (λ marks. AreStill (F.still forcing.now) (F.method_count forcing.now) (has marks)) }
 {
     crew_named::<Brand, R, F, G>(rt, alloc, forcing, workers, gate)
 }

@@ -5,6 +5,7 @@
 mod crews;
 mod desks;
 mod rounds;
+mod turns;
 mod workers;
 
 pub use crews::crew;

@@ -1,10 +1,11 @@
 // Crews: of one forcing and any number of workers.
-ghost use Rattle.std.specs.Prelude.{◌≡◌, ◌<◌, ◌≤◌, length, IfOk};
+ghost use Rattle.std.specs.Prelude.{◌≡◌, ◌<◌, ◌≤◌, length, IfOk, OnOk};
 
 use crate::failing::Failing;
 use crate::shapes::{random, staircase};
 use plank_base::OutOfMemory;
-use plank_bits::{Forcing, MarkWords, Steps, rounds};
+use plank_bits::{MarkWords, Steps};
+use plank_board::Forcing;
 use plank_crew::crew;
 use plank_io::{Gate, OpenGate};
 use std::alloc::Global;
@@ -79,6 +80,38 @@ fn the_first_worker_begins_when_the_second_has_begun(rt: HostRuntime) -> Result<
     assert_eq!(rt; gate.came.load(Ordering::SeqCst), 1);
     assert_eq!(rt; marks.word(0), u64::MAX);
     Ok(())
+}
+
+// Runs every method at the marks so far.
+fn round<F: Forcing, L: Ledger>(
+    alloc: Global,
+    forcing: &F,
+    marks: &mut MarkWords,
+    steps: &mut Steps<L>,
+) -> Result<(), OutOfMemory>
+    requires { length marks.old ≡ F.word_count forcing.now }
+    ensures { OnOk result (length marks.new ≡ F.word_count forcing.now) }
+{
+    for m in 0..forcing.methods() {
+        let found = forcing.force(alloc, m, marks, steps)?;
+        marks.union_with(&found);
+    }
+    Ok(())
+}
+
+// The marks of as many rounds as there may be marks.
+fn rounds<F: Forcing, L: Ledger>(
+    alloc: Global,
+    forcing: &F,
+    steps: &mut Steps<L>,
+) -> Result<MarkWords, OutOfMemory>
+    ensures { IfOk result (λ marks. length marks ≡ F.word_count forcing.now) }
+{
+    let mut marks = MarkWords::new(alloc, forcing.words())?;
+    for _turn in 0..256 {
+        round(alloc, forcing, &mut marks, steps)?;
+    }
+    Ok(marks)
 }
 
 fn rounds_counted<F: Forcing, L: Ledger>(

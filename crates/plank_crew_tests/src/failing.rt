@@ -2,7 +2,8 @@
 ghost use Rattle.std.specs.Prelude.{◌≡◌, ◌≤◌, ◌<◌};
 
 use plank_base::OutOfMemory;
-use plank_bits::{Forcing, MarkWords, Steps};
+use plank_bits::{MarkWords, Steps};
+use plank_board::Forcing;
 use std::alloc::Global;
 use std::sync::atomic::{AtomicU64, Ordering};
 use std::sync::ledger::Ledger;
@@ -22,9 +23,13 @@ impl<'a, F: Forcing> Forcing for Failing<'a, F> {
 
     ghost forces = { λ f. F.forces f.forcing.now };
 
+    ghost still = { λ f. F.still f.forcing.now };
+
     ghost monotone = { λ f. F.monotone f.forcing.now };
 
     ghost bounded = { λ f. F.bounded f.forcing.now };
+
+    ghost closing = { λ f. F.closing f.forcing.now };
 
     fn methods(&self) -> u32 {
         self.forcing.methods()
@@ -46,5 +51,13 @@ impl<'a, F: Forcing> Forcing for Failing<'a, F> {
             return Err(OutOfMemory);
         }
         self.forcing.force(alloc, m, marks, steps)
+    }
+
+    fn is_quick(&self, m: u32) -> bool {
+        self.forcing.is_quick(m)
+    }
+
+    fn is_woken(&self, m: u32, word: u32) -> bool {
+        self.forcing.is_woken(m, word)
     }
 }

@@ -6,8 +6,8 @@ ghost use Rattle.plank_crew.specs.Names.{IsNameOf};
 use crate::seats::{post, sit};
 use crate::shapes::pair;
 use plank_base::OutOfMemory;
-use plank_bits::{Forcing, MarkWords, Steps};
-use plank_board::{Board, Named, Posted, Seat};
+use plank_bits::{MarkWords, Steps};
+use plank_board::{Board, Forcing, Named, Posted, Seat};
 use std::alloc::Global;
 use std::marker::Brand;
 use std::sync::ledger::{Blank, Ledger};
@@ -24,7 +24,7 @@ fn post_counted<N: Named, F: Forcing, L: Ledger>(
     m: u32,
     blank: Blank,
 ) -> Result<(Seat<N>, Posted), OutOfMemory>
-    requires name { IsNameOf N.methods N.words N.forces (F.method_count forcing.now) (F.word_count forcing.now) (F.forces forcing.now) }
+    requires name { IsNameOf N.methods N.words N.forces N.still (F.method_count forcing.now) (F.word_count forcing.now) (F.forces forcing.now) (F.still forcing.now) }
     requires method { m < N.methods }
     requires seat { IsSeatOfOne board.now.table seat }
     requires blank { (blank.name ≡ L.name) × (blank.parts ≡ L.parts) × (0 < blank.parts) }
@@ -43,7 +43,7 @@ fn post_own<N: Named, F: Forcing>(
     seat: Seat<N>,
     m: u32,
 ) -> Result<(Seat<N>, Posted), OutOfMemory>
-    requires name { IsNameOf N.methods N.words N.forces (F.method_count forcing.now) (F.word_count forcing.now) (F.forces forcing.now) }
+    requires name { IsNameOf N.methods N.words N.forces N.still (F.method_count forcing.now) (F.word_count forcing.now) (F.forces forcing.now) (F.still forcing.now) }
     requires method { m < N.methods }
     requires seat { IsSeatOfOne board.now.table seat }
     ensures { IfOk result (λ r. IsSeatOfOne board.now.table r.0) }
@@ -57,7 +57,7 @@ fn post_both<N: Named, R: Threads + Sync, F: Forcing>(
     alloc: Global,
     forcing: &F,
 ) -> Result<(MarkWords, Posted, Posted), OutOfMemory>
-    requires name { IsNameOf N.methods N.words N.forces (F.method_count forcing.now) (F.word_count forcing.now) (F.forces forcing.now) }
+    requires name { IsNameOf N.methods N.words N.forces N.still (F.method_count forcing.now) (F.word_count forcing.now) (F.forces forcing.now) (F.still forcing.now) }
     requires methods { 1 < N.methods }
     ensures { IfOk result (λ r. length r.0 ≡ N.words) }
 {
@@ -67,12 +67,12 @@ fn post_both<N: Named, R: Threads + Sync, F: Forcing>(
     let (one, two) = thread::join(
         rt,
         || -> Result<(Seat<N>, Posted), OutOfMemory>
-            requires name { IsNameOf N.methods N.words N.forces (F.method_count forcing.now) (F.word_count forcing.now) (F.forces forcing.now) }
+            requires name { IsNameOf N.methods N.words N.forces N.still (F.method_count forcing.now) (F.word_count forcing.now) (F.forces forcing.now) (F.still forcing.now) }
             requires methods { 1 < N.methods }
             requires seat { IsSeatOfOne shared.now.table seat }
         { post_own(alloc, forcing, shared, seat, 0) },
         || -> Result<(Seat<N>, Posted), OutOfMemory>
-            requires name { IsNameOf N.methods N.words N.forces (F.method_count forcing.now) (F.word_count forcing.now) (F.forces forcing.now) }
+            requires name { IsNameOf N.methods N.words N.forces N.still (F.method_count forcing.now) (F.word_count forcing.now) (F.forces forcing.now) (F.still forcing.now) }
             requires methods { 1 < N.methods }
             requires seat { IsSeatOfOne shared.now.table other }
         { post_own(alloc, forcing, shared, other, 1) },

@@ -6,8 +6,8 @@ ghost use Rattle.plank_crew_tests.specs.Players.{HasLook};
 use crate::shapes::relay;
 use crate::tables::Table;
 use plank_base::OutOfMemory;
-use plank_bits::{Forcing, MarkWords, Steps};
-use plank_board::{Board, Named, Posted, Quiet, Seat};
+use plank_bits::{MarkWords, Steps};
+use plank_board::{Board, Forcing, Named, Posted, Quiet, Seat};
 use std::alloc::Global;
 use std::marker::Brand;
 use std::process::Abort;
@@ -63,7 +63,7 @@ pub(crate) fn post<N: Named, F: Forcing, L: Ledger>(
     m: u32,
     steps: &mut Steps<L>,
 ) -> Result<Posted, OutOfMemory>
-    requires name { IsNameOf N.methods N.words N.forces (F.method_count forcing.now) (F.word_count forcing.now) (F.forces forcing.now) }
+    requires name { IsNameOf N.methods N.words N.forces N.still (F.method_count forcing.now) (F.word_count forcing.now) (F.forces forcing.now) (F.still forcing.now) }
     requires method { m < N.methods }
     requires player { HasLook board.now.table N.words player.old.seat player.old.look }
     ensures { HasLook board.now.table N.words player.new.seat player.new.look }
@@ -80,7 +80,7 @@ fn play<N: Named, F: Forcing, L: Ledger>(
     next: Move,
     steps: &mut Steps<L>,
 ) -> Result<Told, OutOfMemory>
-    requires name { IsNameOf N.methods N.words N.forces (F.method_count forcing.now) (F.word_count forcing.now) (F.forces forcing.now) }
+    requires name { IsNameOf N.methods N.words N.forces N.still (F.method_count forcing.now) (F.word_count forcing.now) (F.forces forcing.now) (F.still forcing.now) }
     requires sizes { (0 < N.methods) × (0 < N.words) }
     requires player { HasLook board.now.table N.words player.old.seat player.old.look }
     ensures { HasLook board.now.table N.words player.new.seat player.new.look }
@@ -126,7 +126,7 @@ fn take_turns<N: Named, F: Forcing, L: Ledger>(
     b: &mut Player<N>,
     steps: &mut Steps<L>,
 ) -> Result<(), OutOfMemory>
-    requires name { IsNameOf N.methods N.words N.forces (F.method_count forcing.now) (F.word_count forcing.now) (F.forces forcing.now) }
+    requires name { IsNameOf N.methods N.words N.forces N.still (F.method_count forcing.now) (F.word_count forcing.now) (F.forces forcing.now) (F.still forcing.now) }
     requires sizes { (0 < N.methods) × (0 < N.words) }
     requires a { HasLook board.now.table N.words a.old.seat a.old.look }
     requires b { HasLook board.now.table N.words b.old.seat b.old.look }
@@ -151,7 +151,7 @@ fn play_both<N: Named, F: Forcing, L: Ledger>(
     forcing: &F,
     blank: Blank,
 ) -> Result<MarkWords, OutOfMemory>
-    requires name { IsNameOf N.methods N.words N.forces (F.method_count forcing.now) (F.word_count forcing.now) (F.forces forcing.now) }
+    requires name { IsNameOf N.methods N.words N.forces N.still (F.method_count forcing.now) (F.word_count forcing.now) (F.forces forcing.now) (F.still forcing.now) }
     requires sizes { (0 < N.methods) × (0 < N.words) }
     requires blank { (blank.name ≡ L.name) × (blank.parts ≡ L.parts) × (0 < blank.parts) }
     ensures { IfOk result (λ marks. length marks ≡ N.words) }
@@ -172,7 +172,7 @@ fn play_named<N: Named, F: Forcing>(
     alloc: Global,
     forcing: &F,
 ) -> Result<MarkWords, OutOfMemory>
-    requires name { IsNameOf N.methods N.words N.forces (F.method_count forcing.now) (F.word_count forcing.now) (F.forces forcing.now) }
+    requires name { IsNameOf N.methods N.words N.forces N.still (F.method_count forcing.now) (F.word_count forcing.now) (F.forces forcing.now) (F.still forcing.now) }
     requires sizes { (0 < N.methods) × (0 < N.words) }
     ensures { IfOk result (λ marks. length marks ≡ N.words) }
 {

@@ -4,7 +4,8 @@ ghost use Rattle.plank_bits.specs.Words.{has};
 ghost use Rattle.plank_crew_tests.specs.Rules.{AreSet, Applies};
 
 use plank_base::OutOfMemory;
-use plank_bits::{Forcing, MarkWords, Steps};
+use plank_bits::{MarkWords, Steps};
+use plank_board::Forcing;
 use std::alloc::Global;
 use std::sync::ledger::Ledger;
 
@@ -94,9 +95,13 @@ impl Forcing for Table {
 
     ghost forces = { λ t m marks k. IsForced t.rules.items t.words (vec_len t.rules) m marks k };
 
+    ghost still = { λ t m marks. (k : ℕ) → IsForced t.rules.items t.words (vec_len t.rules) m marks k → marks k ≡ true };
+
     ghost monotone = { λ t m k a b h w f. record { below = f.below; rule = f.rule; within = f.within; applies = λ d. record { method = (f.applies d).method; mark = (f.applies d).mark; set = λ j low high. w j ((f.applies d).set j low high) } } };
 
     ghost bounded = { λ t m k a h f. f.below };
+
+    ghost closing = { λ t m k a h still f. still k f };
 
     fn methods(&self) -> u32 {
         self.methods
@@ -119,5 +124,13 @@ impl Forcing for Table {
             apply(&self.rules[i], m, marks, &mut found);
         }
         Ok(found)
+    }
+
+    fn is_quick(&self, _m: u32) -> bool {
+        false
+    }
+
+    fn is_woken(&self, _m: u32, _word: u32) -> bool {
+        true
     }
 }

@@ -5,8 +5,8 @@ ghost use Rattle.plank_crew.specs.Names.{IsNameOf};
 use crate::failing::Failing;
 use crate::shapes::{relay, staircase};
 use plank_base::OutOfMemory;
-use plank_bits::{Forcing, MarkWords, Steps};
-use plank_board::{Board, Named};
+use plank_bits::{MarkWords, Steps};
+use plank_board::{Board, Forcing, Named};
 use plank_crew::work;
 use plank_io::OpenGate;
 use std::alloc::Global;
@@ -22,7 +22,7 @@ fn work_alone<N: Named, F: Forcing, L: Ledger>(
     forcing: &F,
     steps: &mut Steps<L>,
 ) -> Result<(bool, MarkWords), OutOfMemory>
-    requires name { IsNameOf N.methods N.words N.forces (F.method_count forcing.now) (F.word_count forcing.now) (F.forces forcing.now) }
+    requires name { IsNameOf N.methods N.words N.forces N.still (F.method_count forcing.now) (F.word_count forcing.now) (F.forces forcing.now) (F.still forcing.now) }
     requires methods { 0 < N.methods }
     ensures words { IfOk result (λ r. length r.1 ≡ N.words) }
     ensures steps { N.methods ≡ 2 → N.words ≡ 1 → steps.new ≤ steps.old + 194 }
@@ -37,7 +37,7 @@ fn work_counted<N: Named, F: Forcing, L: Ledger>(
     forcing: &F,
     blank: Blank,
 ) -> Result<(bool, MarkWords), OutOfMemory>
-    requires name { IsNameOf N.methods N.words N.forces (F.method_count forcing.now) (F.word_count forcing.now) (F.forces forcing.now) }
+    requires name { IsNameOf N.methods N.words N.forces N.still (F.method_count forcing.now) (F.word_count forcing.now) (F.forces forcing.now) (F.still forcing.now) }
     requires methods { 0 < N.methods }
     requires blank { (blank.name ≡ L.name) × (blank.parts ≡ L.parts) × (0 < blank.parts) }
     ensures { IfOk result (λ r. length r.1 ≡ N.words) }
@@ -50,7 +50,7 @@ fn work_named<N: Named, F: Forcing>(
     alloc: Global,
     forcing: &F,
 ) -> Result<(bool, MarkWords), OutOfMemory>
-    requires name { IsNameOf N.methods N.words N.forces (F.method_count forcing.now) (F.word_count forcing.now) (F.forces forcing.now) }
+    requires name { IsNameOf N.methods N.words N.forces N.still (F.method_count forcing.now) (F.word_count forcing.now) (F.forces forcing.now) (F.still forcing.now) }
     requires methods { 0 < N.methods }
     ensures { IfOk result (λ r. length r.1 ≡ N.words) }
 {

@@ -1,9 +1,10 @@
 -- Steps that lead to a location: what the test of exits says, and what is left after them.
-use Rattle.std.specs.Prelude.{◌≡◌, ℕ, ◌+◌, true, false, ◌&&◌, List, slice_get, Option, Some, None}
+use Rattle.std.specs.Prelude.{◌≡◌, ℕ, ◌+◌, ◌<◌, true, false, ◌&&◌, List, length, slice_get, Option, Some, None}
 use Rattle.std.specs.Option.{option_map_or}
 use Rattle.std.proofs.Common.{refl, sym, ◌∙◌, ap, subst, inl, inr, arith}
 use Rattle.std.proofs.lemmas.Bool.{true≢false, false≢true, eqb-true, eq-eqb, cases_eq}
-use Rattle.std.proofs.lemmas.Option.{same_Some}
+use Rattle.std.proofs.lemmas.Option.{same_Some, slice_get_within}
+use Rattle.plank_prog.specs.Methods.{location_count}
 use Rattle.plank_bits.specs.Words.{has}
 use Rattle.plank_prog.specs.declared.methods.Location.{Location}
 use Rattle.plank_prog.specs.declared.methods.Method.{Method}
@@ -14,9 +15,9 @@ use Rattle.plank_fact.specs.Tables.{IsNumbered}
 use Rattle.plank_fact.specs.Outlines.{Outline, Point}
 use Rattle.plank_fact.specs.OwnSteps.{location_after, LeadsTo}
 use Rattle.plank_fact.specs.After.{IsAfter}
-use Rattle.plank_fact.specs.Forced.{IsRefuted, after}
+use Rattle.plank_unit.specs.Units.{IsRefutedBySteps, after, IsHadBySteps}
 use Rattle.plank_method.specs.Deciding.{outline_of, IsExact}
-use Rattle.plank_method.specs.Runs.{is_at, leads, IsSiftedAt, IsHadAfter, IsHadAfterBoth, IsHadFrom}
+use Rattle.plank_method.specs.Runs.{is_at, leads, IsSiftedAt, IsHadAtEntry, IsHadAfter, IsHadAfterBoth, IsHadFrom}
 use Rattle.plank_method.proofs.Sifting.{all_left, known_left}
 
 at_place : (to : ℕ) (o : Option ℕ) → is_at to o ≡ true → o ≡ Some to
@@ -54,9 +55,9 @@ leads_there methods y x e w =
 
 module _ (p : Program) (marks : List ℕ) (m from : ℕ) (e : Exit) (l : ℕ) where
   -- where no step leads there
-  pub none_leads : (claimed : List ℕ) → leads p.methods m from e l ≡ false → IsSiftedAt p marks m l claimed claimed (λ O x. IsHadAfter from e O x)
+  pub none_leads : (claimed : List ℕ) → leads p.methods m from e l ≡ false → IsSiftedAt p marks m l claimed claimed (λ O x. IsHadAfter from e O x) (λ O x. IsRefutedBySteps O x)
   none_leads claimed none = λ x of_method of_location.
-      all_left p.header x.method (has claimed) (IsHadAfter from e (outline_of p marks) x) (IsRefuted (outline_of p marks) x)
+      all_left p.header x.method (has claimed) (IsHadAfter from e (outline_of p marks) x) (IsRefutedBySteps (outline_of p marks) x)
       (λ n f is c y at_from w.
       let there = leads_there p.methods y x e w in
       let same : leads p.methods y.m y.l e x.l ≡ leads p.methods m from e l =
@@ -66,12 +67,12 @@ module _ (p : Program) (marks : List ℕ) (m from : ℕ) (e : Exit) (l : ℕ) wh
   -- where one does
   pub after_left : (claimed known left : List ℕ) → leads p.methods m from e l ≡ true → ((k : ℕ) → has left k ≡ (has claimed k && has known k))
       → ((x : Point p.methods) → x.m ≡ m → x.l ≡ from → IsExact p.header x.method (has claimed) (has known) (IsAfter (outline_of p marks) x e))
-      → IsSiftedAt p marks m l claimed left (λ O x. IsHadAfter from e O x)
+      → IsSiftedAt p marks m l claimed left (λ O x. IsHadAfter from e O x) (λ O x. IsRefutedBySteps O x)
   after_left claimed known left goes meets exact = λ x of_method of_location.
       let w = found_from p.methods m from e l goes in
       let y = w.point in
       let one : y.method ≡ x.method = same_Some y.method x.method (sym y.called ∙ ap (slice_get p.methods) (w.of_method ∙ sym of_method) ∙ x.called) in
-      known_left p.header x.method (has claimed) (has known) (has left) (IsHadAfter from e (outline_of p marks) x) (IsRefuted (outline_of p marks) x) meets
+      known_left p.header x.method (has claimed) (has known) (has left) (IsHadAfter from e (outline_of p marks) x) (IsRefutedBySteps (outline_of p marks) x) meets
       (λ n f is c k z at_from leads.
       let of_m : z.m ≡ m = sym leads.same_method ∙ of_method in
       let its : x.method ≡ z.method = same_Some x.method z.method (sym x.called ∙ ap (slice_get p.methods) leads.same_method ∙ z.called) in
@@ -92,3 +93,17 @@ one_location_more count O x f earlier this l below =
       | inl same ↦ subst (λ k. IsHadAfterBoth k O x f) (sym same) this
       | inr other ↦ earlier l (omega arith)
     ]
+
+-- after the steps of all locations of the method
+pub had_from_all : (p : Program) (marks : List ℕ) (m count : ℕ) → count ≡ option_map_or location_count (slice_get p.methods m) 0
+    → (x : Point p.methods) → x.m ≡ m → (f : Fact) → IsHadAtEntry (outline_of p marks) x f → IsHadFrom count (outline_of p marks) x f → IsHadBySteps (outline_of p marks) x f
+had_from_all p marks m count count_is x of_method f entry from_all = record {
+  entry = entry;
+  after = λ from e leads. from_all from.l (of_count from (sym leads.same_method ∙ of_method)) e from refl leads;
+}
+  where
+    of_count : (from : Point p.methods) → from.m ≡ m → from.l < count
+    of_count from here =
+        let within = slice_get_within from.method.locations from.l from.location from.there in
+        let all : count ≡ length from.method.locations = count_is ∙ ap (λ (o : Option Method). option_map_or location_count o 0) (ap (slice_get p.methods) (sym here) ∙ from.called) in
+        omega arith

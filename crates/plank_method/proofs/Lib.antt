@@ -2,6 +2,4 @@ pub mod Growing
 pub mod Sifting
 pub mod Exits
 pub mod ForcedMarks
-pub mod Validity
-pub mod Passing
-pub mod Reaching
+pub mod UnitMarks

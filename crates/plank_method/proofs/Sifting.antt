@@ -10,9 +10,9 @@ use Rattle.plank_fact.specs.declared.facts.Fact.{Fact}
 use Rattle.plank_fact.specs.Tables.{IsNumbered}
 use Rattle.plank_fact.specs.Outlines.{Outline, Point}
 use Rattle.plank_fact.specs.After.{IsAtEntry}
-use Rattle.plank_fact.specs.Forced.{IsRefuted, at_entry, broken}
-use Rattle.plank_method.specs.Deciding.{outline_of, IsExact, IsBrokenFact}
-use Rattle.plank_method.specs.Runs.{IsSifted, IsHadAtEntry, IsKept, IsSiftedAt}
+use Rattle.plank_unit.specs.Units.{IsRefutedBySteps, at_entry, IsHadBySteps, IsBrokenFact, IsKept}
+use Rattle.plank_method.specs.Deciding.{outline_of, IsExact}
+use Rattle.plank_method.specs.Runs.{IsSifted, IsHadAtEntry, IsHadFrom, IsSiftedAt}
 
 -- ---- sets
 
@@ -78,39 +78,36 @@ module _ (h : Header) (m : Method) where
 
 pub entry_left : (p : Program) (marks : List ℕ) (m l : ℕ) (claimed known after : List ℕ) → l ≡ 0 → ((k : ℕ) → has after k ≡ (has claimed k && has known k))
     → ((method : Method) → slice_get p.methods m ≡ Some method → IsExact p.header method (has claimed) (has known) (IsAtEntry (outline_of p marks) method))
-    → IsSiftedAt p marks m l claimed after (λ O x. IsHadAtEntry O x)
+    → IsSiftedAt p marks m l claimed after (λ O x. IsHadAtEntry O x) (λ O x. IsRefutedBySteps O x)
 entry_left p marks m l claimed known after begins meets exact = λ x of_method of_location.
     let called : slice_get p.methods m ≡ Some x.method = ap (slice_get p.methods) (sym of_method) ∙ x.called in
-    known_left p.header x.method (has claimed) (has known) (has after) (IsHadAtEntry (outline_of p marks) x) (IsRefuted (outline_of p marks) x) meets
+    known_left p.header x.method (has claimed) (has known) (has after) (IsHadAtEntry (outline_of p marks) x) (IsRefutedBySteps (outline_of p marks) x) meets
     (λ n f is c k first. (exact x.method called n f is c).0 k)
     (λ n f is c away. at_entry (of_location ∙ begins) (λ so. true≢false (sym ((exact x.method called n f is c).1 so) ∙ away)))
 
-pub elsewhere_left : (p : Program) (marks : List ℕ) (m l : ℕ) (claimed : List ℕ) → (l ≡ 0 → ⊥) → IsSiftedAt p marks m l claimed claimed (λ O x. IsHadAtEntry O x)
+pub elsewhere_left : (p : Program) (marks : List ℕ) (m l : ℕ) (claimed : List ℕ) → (l ≡ 0 → ⊥) → IsSiftedAt p marks m l claimed claimed (λ O x. IsHadAtEntry O x) (λ O x. IsRefutedBySteps O x)
 elsewhere_left p marks m l claimed goes = λ x of_method of_location.
-    all_left p.header x.method (has claimed) (IsHadAtEntry (outline_of p marks) x) (IsRefuted (outline_of p marks) x) (λ n f is e first. absurd (goes (sym of_location ∙ first)))
+    all_left p.header x.method (has claimed) (IsHadAtEntry (outline_of p marks) x) (IsRefutedBySteps (outline_of p marks) x) (λ n f is e first. absurd (goes (sym of_location ∙ first)))
 
 -- ---- what other calls break
 
-refuted_so : (O : Outline) (x : Point O.methods) (f : Fact) → IsBrokenFact O x f → IsRefuted O x f
-refuted_so O x f w = subst (IsRefuted O x) (sym w.1) (broken w.2)
-
 pub unbroken_left : (p : Program) (marks : List ℕ) (m l : ℕ) (claimed found after : List ℕ) → ((k : ℕ) → has after k ≡ (has claimed k && not (has found k)))
     → ((x : Point p.methods) → x.m ≡ m → x.l ≡ l → IsExact p.header x.method (has claimed) (has found) (IsBrokenFact (outline_of p marks) x))
-    → IsSiftedAt p marks m l claimed after (λ O x. IsKept O x)
+    → IsSiftedAt p marks m l claimed after (λ O x. IsKept O x) (λ O x. IsBrokenFact O x)
 unbroken_left p marks m l claimed found after minus exact = λ x of_method of_location.
-    found_gone p.header x.method (has claimed) (has found) (has after) (IsBrokenFact (outline_of p marks) x) (IsRefuted (outline_of p marks) x) minus (exact x of_method of_location)
-    (λ n f is so. refuted_so (outline_of p marks) x f so)
+    found_gone p.header x.method (has claimed) (has found) (has after) (IsBrokenFact (outline_of p marks) x) (IsBrokenFact (outline_of p marks) x) minus (exact x of_method of_location)
+    (λ n f is so. so)
 
 -- ---- one after the other
 
-pub sifted_both : (p : Program) (marks : List ℕ) (m l : ℕ) (before mid after : List ℕ) (First Then Holds : (O : Outline) → Point O.methods → Fact → Type 0)
-    → IsSiftedAt p marks m l before mid First → IsSiftedAt p marks m l mid after Then
-    → ((O : Outline) (x : Point O.methods) (f : Fact) → First O x f → Then O x f → Holds O x f) → IsSiftedAt p marks m l before after Holds
-sifted_both p marks m l before mid after First Then Holds a b join = λ x of_method of_location.
-    both_left p.header x.method (has before) (has mid) (has after) (First (outline_of p marks) x) (Then (outline_of p marks) x) (IsRefuted (outline_of p marks) x) (Holds (outline_of p marks) x)
-    (a x of_method of_location) (b x of_method of_location) (join (outline_of p marks) x)
+pub sifted_both : (p : Program) (marks : List ℕ) (m l : ℕ) (before mid after : List ℕ) (First Then Holds Refutes : (O : Outline) → Point O.methods → Fact → Type 0)
+    → IsSiftedAt p marks m l before mid First Refutes → IsSiftedAt p marks m l mid after Then Refutes
+    → ((x : Point p.methods) (f : Fact) → First (outline_of p marks) x f → Then (outline_of p marks) x f → Holds (outline_of p marks) x f) → IsSiftedAt p marks m l before after Holds Refutes
+sifted_both p marks m l before mid after First Then Holds Refutes a b join = λ x of_method of_location.
+    both_left p.header x.method (has before) (has mid) (has after) (First (outline_of p marks) x) (Then (outline_of p marks) x) (Refutes (outline_of p marks) x) (Holds (outline_of p marks) x)
+    (a x of_method of_location) (b x of_method of_location) (join x)
 
-pub sifted_none : (p : Program) (marks : List ℕ) (m l : ℕ) (claimed : List ℕ) (Holds : (O : Outline) → Point O.methods → Fact → Type 0) → ((O : Outline) (x : Point O.methods) (f : Fact) → Holds O x f)
-    → IsSiftedAt p marks m l claimed claimed Holds
-sifted_none p marks m l claimed Holds each = λ x of_method of_location.
-    all_left p.header x.method (has claimed) (Holds (outline_of p marks) x) (IsRefuted (outline_of p marks) x) (λ n f is e. each (outline_of p marks) x f)
+pub sifted_none : (p : Program) (marks : List ℕ) (m l : ℕ) (claimed : List ℕ) (Holds Refutes : (O : Outline) → Point O.methods → Fact → Type 0) → ((O : Outline) (x : Point O.methods) (f : Fact) → Holds O x f)
+    → IsSiftedAt p marks m l claimed claimed Holds Refutes
+sifted_none p marks m l claimed Holds Refutes each = λ x of_method of_location.
+    all_left p.header x.method (has claimed) (Holds (outline_of p marks) x) (Refutes (outline_of p marks) x) (λ n f is e. each (outline_of p marks) x f)

@@ -4,11 +4,10 @@ use Rattle.plank_bits.specs.Words.{has}
 use Rattle.plank_prog.specs.declared.headers.Header.{Header}
 use Rattle.plank_prog.specs.declared.methods.Method.{Method}
 use Rattle.plank_prog.specs.declared.programs.Program.{Program}
-use Rattle.plank_pic.specs.declared.literals.Literal.{Literal}
 use Rattle.plank_fact.specs.declared.facts.Fact.{Fact}
 use Rattle.plank_fact.specs.Tables.{IsNumbered}
-use Rattle.plank_fact.specs.Outlines.{Outline, Point}
-use Rattle.plank_fact.specs.Forced.{outline, IsBroken}
+use Rattle.plank_fact.specs.Outlines.{Outline}
+use Rattle.plank_fact.specs.Forced.{outline}
 
 -- a program and the marks that are set in words
 abbrev pub outline_of : Program → List ℕ → Outline
@@ -17,7 +16,3 @@ outline_of p words = outline p.header p.methods (has words)
 -- of the wanted facts just those were found of which this holds
 abbrev pub IsExact : Header → Method → (ℕ → Bool) → (ℕ → Bool) → (Fact → Type 0) → Type 0
 IsExact h m wanted found Holds = (n : ℕ) (f : Fact) → IsNumbered h m n f → wanted n ≡ true → IsTrue (found n) ↔ Holds f
-
--- a step of another call may break the fact, which says what is true now
-abbrev pub IsBrokenFact : (O : Outline) → Point O.methods → Fact → Type 0
-IsBrokenFact O x f = (L : Literal) × (f ≡ Fact.Now L) × IsBroken O x L

@@ -1,4 +1,3 @@
 pub mod Deciding
 pub mod Marks
 pub mod Runs
-pub mod Passes

@@ -1,5 +1,5 @@
--- How a run goes over the locations of a method: which facts are left of those that are claimed, and which are forced.
-use Rattle.std.specs.Prelude.{◌≡◌, ◌⊎◌, ℕ, ◌<◌, ◌==◌, Bool, true, false, List, slice_get, Option, Some, None}
+-- How a run goes over the facts that are claimed at a location: which are left, and which are forced.
+use Rattle.std.specs.Prelude.{◌≡◌, ◌⊎◌, ◌↔◌, ℕ, ◌<◌, ◌==◌, Bool, true, false, List, length, slice_get, Option, Some, None, IsTrue}
 use Rattle.std.specs.Option.{option_map_or}
 use Rattle.plank_bits.specs.Words.{has}
 use Rattle.plank_prog.specs.declared.headers.Header.{Header}
@@ -8,11 +8,11 @@ use Rattle.plank_prog.specs.declared.programs.Program.{Program}
 use Rattle.plank_pic.specs.declared.literals.Exit.{Exit}
 use Rattle.plank_fact.specs.declared.facts.Fact.{Fact}
 use Rattle.plank_fact.specs.Tables.{IsNumbered}
-use Rattle.plank_fact.specs.Outlines.{Outline, Point, mark_number}
+use Rattle.plank_fact.specs.Outlines.{Outline, Point, location_number, mark_number, IsMarkOf}
 use Rattle.plank_fact.specs.OwnSteps.{location_after, LeadsTo}
 use Rattle.plank_fact.specs.After.{IsAfter, IsAtEntry}
-use Rattle.plank_fact.specs.Forced.{IsRefuted}
-use Rattle.plank_method.specs.Deciding.{outline_of, IsBrokenFact}
+use Rattle.plank_unit.specs.Units.{IsForcedThere}
+use Rattle.plank_method.specs.Deciding.{outline_of}
 
 -- ---- steps
 
@@ -49,39 +49,25 @@ IsHadAfterBoth l O x f = (e : Exit) → IsHadAfter l e O x f
 abbrev pub IsHadFrom : ℕ → (O : Outline) → Point O.methods → Fact → Type 0
 IsHadFrom count O x f = (l : ℕ) → l < count → IsHadAfterBoth l O x f
 
--- no step of another call breaks it
-abbrev pub IsKept : (O : Outline) → Point O.methods → Fact → Type 0
-IsKept O x f = IsBrokenFact O x f → ⊥
+-- at entry, and after the steps of each location before this one
+abbrev pub IsHad : ℕ → (O : Outline) → Point O.methods → Fact → Type 0
+IsHad count O x f = IsHadAtEntry O x f × IsHadFrom count O x f
 
 -- what is left at the l-th location of the m-th method holds, and what is gone is refuted there
-abbrev pub IsSiftedAt : Program → List ℕ → ℕ → ℕ → List ℕ → List ℕ → ((O : Outline) → Point O.methods → Fact → Type 0) → Type 0
-IsSiftedAt p marks m l before after Holds =
-    (x : Point p.methods) → x.m ≡ m → x.l ≡ l → IsSifted p.header x.method (has before) (has after) (Holds (outline_of p marks) x) (IsRefuted (outline_of p marks) x)
+abbrev pub IsSiftedAt : Program → List ℕ → ℕ → ℕ → List ℕ → List ℕ → (Holds Refutes : (O : Outline) → Point O.methods → Fact → Type 0) → Type 0
+IsSiftedAt p marks m l before after Holds Refutes =
+    (x : Point p.methods) → x.m ≡ m → x.l ≡ l → IsSifted p.header x.method (has before) (has after) (Holds (outline_of p marks) x) (Refutes (outline_of p marks) x)
 
 -- ---- what is forced
 
 -- the fact of number n is forced at the location: it is marked already, or refuted
-pub record IsForcedAt (O : Outline) (x : Point O.methods) (n : ℕ) : Type 0 where
+pub record IsForcedAt (Refutes : (O : Outline) → Point O.methods → Fact → Type 0) (O : Outline) (x : Point O.methods) (n : ℕ) : Type 0 where
   pub fact : Fact
   pub numbered : IsNumbered O.header x.method n fact
-  pub forced : (O.marks (mark_number O.methods x.m x.l n) ≡ true) ⊎ IsRefuted O x fact
+  pub forced : (O.marks (mark_number O.methods x.m x.l n) ≡ true) ⊎ Refutes O x fact
 
--- the claim of the fact at the location is justified
-pub record IsJustified (O : Outline) (x : Point O.methods) (f : Fact) : Type 0 where
-  pub entry : IsHadAtEntry O x f
-  pub after : (from : Point O.methods) (e : Exit) → LeadsTo from e x → IsAfter O from e f
-  pub kept : IsKept O x f
-
--- the marks of the facts at the first locations of the m-th method: where one is not set, the claim of its fact is justified
-abbrev pub AreJustified : (O : Outline) → ℕ → ℕ → (ℕ → Bool) → Type 0
-AreJustified O m count marks =
-    (x : Point O.methods) → x.m ≡ m → x.l < count → (n : ℕ) (f : Fact) → IsNumbered O.header x.method n f → marks (mark_number O.methods x.m x.l n) ≡ false → IsJustified O x f
-
--- k is the mark of a fact that is forced at one of the first locations of the m-th method
-pub record IsForcedWithin (O : Outline) (m count k : ℕ) : Type 0 where
-  pub at : Point O.methods
-  pub of_method : at.m ≡ m
-  pub within : at.l < count
-  pub number : ℕ
-  pub is : k ≡ mark_number O.methods at.m at.l number
-  pub forced : IsForcedAt O at number
+-- just the marks of the facts that are forced at the location of a number were found; of each other fact there this holds
+pub record AreFound (p : Program) (marks : List ℕ) (number : ℕ) (found : List ℕ) (Holds Refutes : (O : Outline) → Point O.methods → Fact → Type 0) : Type 0 where
+  pub same_length : length found ≡ length marks
+  pub forced : (k : ℕ) → IsTrue (has found k) ↔ IsForcedThere p.header p.methods Refutes number (has marks) k
+  pub others : (x : Point p.methods) → location_number p.methods x.m x.l ≡ number → (f : Fact) (k : ℕ) → IsMarkOf p.header x f k → has found k ≡ false → Holds (outline_of p marks) x f

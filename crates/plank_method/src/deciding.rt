@@ -4,7 +4,8 @@ ghost use Rattle.plank_prog.specs.declared.methods.Method.{Method};
 ghost use Rattle.plank_prog.specs.declared.programs.Program.{Program};
 ghost use Rattle.plank_fact.specs.Outlines.{Point};
 ghost use Rattle.plank_fact.specs.After.{IsAtEntry, IsAfter};
-ghost use Rattle.plank_method.specs.Deciding.{outline_of, IsExact, IsBrokenFact};
+ghost use Rattle.plank_method.specs.Deciding.{outline_of, IsExact};
+ghost use Rattle.plank_unit.specs.Units.{IsBrokenFact};
 ghost use Rattle.plank_marks.specs.Marks.{mark_words};
 
 use plank_base::OutOfMemory;

@@ -11,8 +11,8 @@ use plank_bits::MarkWords;
 use plank_fact::{FactSet, fact};
 use plank_prog::Program;
 
-/// How many marks a location has.
-pub(crate) const MARKS: u32 = 64 * MARK_WORDS_PER_LOCATION;
+// How many marks a location has.
+const MARKS: u32 = 64 * MARK_WORDS_PER_LOCATION;
 
 // The set, with a number added if it is to be.
 fn with_if(set: &FactSet, number: u32, added: bool) -> FactSet

@@ -12,7 +12,8 @@ use Rattle.plank_fact.specs.declared.facts.Fact.{Fact}
 use Rattle.plank_fact.specs.Outlines.{Outline, Point}
 use Rattle.plank_fact.specs.Forced.{IsBroken}
 use Rattle.plank_marks.proofs.Rooms.{IsThere}
-use Rattle.plank_method.specs.Deciding.{IsExact, IsBrokenFact}
+use Rattle.plank_unit.specs.Units.{IsBrokenFact}
+use Rattle.plank_method.specs.Deciding.{IsExact}
 use Rattle.plank_rely.specs.Breaking.{IsBrokenBy, IsFactBrokenBy, IsBrokenWithin, IsBrokenBefore}
 
 open_there : (a b c : Bool) → c ≡ (a && not b) → a ≡ true → b ≡ false → c ≡ true

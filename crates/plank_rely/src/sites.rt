@@ -4,7 +4,8 @@ ghost use Rattle.plank_bits.specs.Words.{has};
 ghost use Rattle.plank_prog.specs.Methods.{location_count};
 ghost use Rattle.plank_fact.specs.Outlines.{Point};
 ghost use Rattle.plank_marks.specs.Marks.{mark_words};
-ghost use Rattle.plank_method.specs.Deciding.{outline_of, IsExact, IsBrokenFact};
+ghost use Rattle.plank_unit.specs.Units.{IsBrokenFact};
+ghost use Rattle.plank_method.specs.Deciding.{outline_of, IsExact};
 ghost use Rattle.plank_rely.specs.Breaking.{IsBrokenWithin, IsBrokenBefore};
 
 use crate::asking::Claimed;

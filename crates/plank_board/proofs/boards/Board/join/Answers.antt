@@ -9,7 +9,7 @@ join_seat-requires g c =
     let N = g.N.Named in
     let here : c.seat.inside.place.table_id ≡ c.self.inside.table.shared.table_id = search rules in
     let there : c.other.inside.place.table_id ≡ c.self.inside.table.shared.table_id = search rules in
-    (here, there, c.other.invariant.0, omega (arith, c.self.invariant.0), joins_kept N.methods N.words N.forces N.monotone c.self.inside.table.shared.key c.seat.inside.place.id c.other.inside.place.id c.seat.inside.place.me.0 c.other.inside.place.me.0 c.seat.invariant.1.parts c.seat.invariant.2 c.other.invariant.2)
+    (here, there, c.other.invariant.0, omega (arith, c.self.invariant.0), joins_kept N.methods N.words N.forces N.still N.monotone c.self.inside.table.shared.key c.seat.inside.place.id c.other.inside.place.id c.seat.inside.place.me.0 c.other.inside.place.me.0 c.seat.invariant.1.parts c.seat.invariant.2 c.other.invariant.2)
 
 pub invariant_of-seat : goal.invariant_of-seat
 invariant_of-seat g c =

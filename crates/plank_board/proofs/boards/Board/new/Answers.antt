@@ -10,4 +10,4 @@ of_words-requires g c =
     let N = g.N.Named in
     let all : c.as_slice.result.now ≡ replicate (N.methods + 1 + N.words) 0 = search rules in
     let few : N.words < 2 ^ 32 = search rules in
-    subst (λ (ws : List ℕ). IsKept N.methods N.words N.forces c.args.seats ws (newcomer N.methods N.words c.args.seats ∷ [])) (sym all) (opening_kept N.methods N.words N.forces N.monotone c.args.seats few)
+    subst (λ (ws : List ℕ). IsKept N.methods N.words N.forces N.still c.args.seats ws (newcomer N.methods N.words c.args.seats ∷ [])) (sym all) (opening_kept N.methods N.words N.forces N.still N.monotone c.args.seats few)

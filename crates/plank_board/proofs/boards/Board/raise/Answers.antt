@@ -14,5 +14,5 @@ fetch_add-requires g c =
     let here : c.args.place.now.table_id ≡ c.self.inside.table.shared.table_id = search rules in (
       here,
       omega (arith, c.self.invariant.0),
-      allows N.methods N.words N.forces N.monotone c.self.inside.table.shared.key c.self.inside.table.shared.table_id.slots c.args.place.now.id me raises (λ n. (n + 1) % 2 ^ 64) (IsMade N.methods N.words N.forces raises me) ready.bare ready.sits c.requires.may (λ n low. mod-eq_of_lt (low refl)) (λ n after made. made),
+      allows N.methods N.words N.forces N.still N.monotone c.self.inside.table.shared.key c.self.inside.table.shared.table_id.slots c.args.place.now.id me raises (λ n. (n + 1) % 2 ^ 64) (IsMade N.methods N.words N.forces raises me) ready.bare ready.sits c.requires.may (λ n low. mod-eq_of_lt (low refl)) (λ n after made. made),
     )

@@ -9,7 +9,7 @@ split_seat-place-requires g c =
     let N = g.N.Named in
     let here : c.seat.inside.place.table_id ≡ c.self.inside.table.shared.table_id = search rules in
     let several : 1 < c.seat.inside.place.me.0.parts = search rules in
-    (here, omega (arith, c.self.invariant.0), splits_kept N.methods N.words N.forces N.monotone c.self.inside.table.shared.key c.seat.inside.place.id c.seat.inside.place.me.0 several c.seat.invariant.2)
+    (here, omega (arith, c.self.invariant.0), splits_kept N.methods N.words N.forces N.still N.monotone c.self.inside.table.shared.key c.seat.inside.place.id c.seat.inside.place.me.0 several c.seat.invariant.2)
 
 pub invariant_of-result : goal.invariant_of-result
 invariant_of-result g c =

@@ -3,7 +3,8 @@ use Rattle.std.specs.Prelude.{slice_get}
 use Rattle.std.specs.Option.{option_map_or}
 use Rattle.plank_bits.specs.Words.{has}
 use Rattle.plank_prog.specs.Methods.{location_count}
-use Rattle.plank_method.specs.Deciding.{outline_of, IsExact, IsBrokenFact}
+use Rattle.plank_unit.specs.Units.{IsBrokenFact}
+use Rattle.plank_method.specs.Deciding.{outline_of, IsExact}
 use Rattle.plank_rely.specs.Breaking.{IsBrokenWithin, IsBrokenBefore}
 use Rattle.plank_rely.proofs.Unions.{none_exact, union_exact, alike_exact, none_before, before_more, before_within, before_cases, all_before, before_all}
 use Rattle.plank_rely.proofs.asking.Claimed.broken.Goals as goal
