@@ -8,34 +8,64 @@ use std::marker::Sync;
 use std::sync::atomic::{AtomicU64, Ordering};
 use std::thread::Threads;
 
-/// Numbers of workers, in two words or in one.
-const NUMBERS: [(&str, &str); 5] = [
-    ("--workers", "0001"),
-    ("--workers", "2"),
-    ("--workers=2", "--"),
-    ("--workers=4", "--"),
-    ("--workers", "64"),
+/// Words that ask for different numbers of workers, a text, and what is written of it by each of them.
+const ANSWERS: [(&[&[&str]], &[u8], &[u8]); 5] = [
+    (
+        &[
+            &["verify", "--workers", "1"],
+            &["verify", "--workers", "2"],
+            &["verify", "--workers=4"],
+            &["verify", "--workers=64"],
+        ],
+        ONE,
+        b"structure one\neffects 0\naccepted\n",
+    ),
+    (
+        &[
+            &["verify", "--workers=2"],
+            &["verify", "--workers", "0002"],
+            &["verify", "--workers", "64"],
+        ],
+        ENDS,
+        b"structure ends\neffects 0\naccepted\n",
+    ),
+    (
+        &[
+            &["verify", "--workers=2"],
+            &["verify", "--workers=4"],
+            &["verify", "--workers=64"],
+        ],
+        LAMP,
+        LAMP_REPORT,
+    ),
+    (
+        &[
+            &["effects", "--workers=2"],
+            &["effects", "--workers", "5"],
+        ],
+        LAMP,
+        LAMP_EFFECTS,
+    ),
+    (
+        &[
+            &["verify", "--workers=2"],
+            &["verify", "--workers", "4"],
+        ],
+        LOST,
+        LOST_REPORT,
+    ),
 ];
 
-/// A command, a text, and what is written, whatever the number of workers.
-const ANSWERS: [(&str, &[u8], &[u8]); 5] = [
-    ("verify", ONE, b"structure one\neffects 0\naccepted\n"),
-    ("verify", ENDS, b"structure ends\neffects 0\naccepted\n"),
-    ("verify", LAMP, LAMP_REPORT),
-    ("effects", LAMP, LAMP_EFFECTS),
-    ("verify", LOST, LOST_REPORT),
-];
-
-/// Whether any number of workers writes this.
+/// Whether each of these calls writes this.
 fn all_write<R: Threads + Sync>(
     rt: &R,
     alloc: Global,
-    command: &str,
+    calls: &[&[&str]],
     text: &[u8],
     output: &[u8],
 ) -> Result<bool, OutOfMemory> {
-    for (option, number) in NUMBERS {
-        if !writes(rt, alloc, &[command, option, number], text, output)? {
+    for words in calls {
+        if !writes(rt, alloc, words, text, output)? {
             return Ok(false);
         }
     }
@@ -44,8 +74,8 @@ fn all_write<R: Threads + Sync>(
 
 #[test]
 fn any_number_of_workers_writes_the_same(rt: HostRuntime) {
-    for (command, text, output) in ANSWERS {
-        assert!(rt; all_write(&rt, rt.alloc(), command, text, output) == Ok(true));
+    for (calls, text, output) in ANSWERS {
+        assert!(rt; all_write(&rt, rt.alloc(), calls, text, output) == Ok(true));
     }
 }
 
