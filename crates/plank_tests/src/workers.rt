@@ -30,27 +30,17 @@ const ANSWERS: [(&[&[&str]], &[u8], &[u8]); 5] = [
         b"structure ends\neffects 0\naccepted\n",
     ),
     (
-        &[
-            &["verify", "--workers=2"],
-            &["verify", "--workers=4"],
-            &["verify", "--workers=64"],
-        ],
+        &[&["verify", "--workers=2"], &["verify", "--workers=4"]],
         LAMP,
         LAMP_REPORT,
     ),
     (
-        &[
-            &["effects", "--workers=2"],
-            &["effects", "--workers", "5"],
-        ],
+        &[&["effects", "--workers=2"], &["effects", "--workers", "5"]],
         LAMP,
         LAMP_EFFECTS,
     ),
     (
-        &[
-            &["verify", "--workers=2"],
-            &["verify", "--workers", "4"],
-        ],
+        &[&["verify", "--workers=2"], &["verify", "--workers", "4"]],
         LOST,
         LOST_REPORT,
     ),
