@@ -21,6 +21,10 @@ pub(crate) const LAMP: &[u8] =
 const STALE_SLOT: &[u8] =
     b"structure slot;\nflag gone;\nptr next asc;\nlock;\nroot head;\nstart head { key = MIN; }\nedge next : x.key < j;\nholds x.key == j && !x.gone;\nkeep leaf : x.key == MIN || x.next == null;\nkeep inset : x.key != j || j in x;\nmethod insert(k) {\n  var n;\n  n = new;\n  loop {\n    atomic { test root.next == null; write root.next = n; } else { continue; }\n    return true;\n  }\n}\nmethod delete(k) {\n  var c;\n  loop {\n    atomic { test root.next != null; c = root.next; } else { continue; }\n    if (c.key == k) {\n      lock root;\n      atomic { with root; test !c.gone; write c.gone = true; } else { unlock root; continue; }\n      unlock root;\n      return true;\n    }\n  }\n}\nmethod remove as delete(k) {\n  var c, n;\n  n = new;\n  loop {\n    lock root;\n    atomic { test root.next != null; c = root.next; } else { unlock root; continue; }\n    if (c.key == k && !c.gone) {\n      atomic { c = n.next; write root.next = null; }\n      unlock root;\n      return true;\n    }\n    unlock root;\n  }\n}\n";
 
+/// One bucket of a hash set, whose insert puts the new node before all others.
+const UNORDERED: &[u8] =
+    b"structure bucket;\nptr next free;\nlock;\nroot head;\nstart head { key = MIN; }\nedge next : x.key != j;\nholds x.key == j;\nmethod insert(k) {\n  var p, c, n;\n  lock root;\n  p = root;\n  loop {\n    if (p.key == k) { unlock root; return false; }\n    atomic { test p.key != k; test p.next != null; c = p.next; } else { break; }\n    p = c;\n  }\n  atomic { test p.key != k; test p.next == null; } else { loop { p = root; } }\n  n = new;\n  c = root.next;\n  atomic { write n.next = c; }\n  atomic { with c; write root.next = n; }\n  unlock root; return true;\n}\nmethod contains(k) {\n  var p, c;\n  lock root;\n  p = root;\n  loop {\n    if (p.key == k) { unlock root; return true; }\n    atomic { test p.key != k; test p.next != null; c = p.next; } else { break; }\n    p = c;\n  }\n  atomic { test p.key != k; test p.next == null; } else { loop { p = root; } }\n  unlock root; return false;\n}\n";
+
 /// The same without the keep that says where pointers lead.
 const UNLINKED: &[u8] =
     b"structure ends;\nptr next asc;\nroot head;\nstart head { key = MIN; next = tail; }\nstart tail { key = MAX; }\nedge next : x.key < j;\nholds x.key == j;\nmethod contains(k) {\n  var p, c;\n  p = root;\n  c = p.next;\n  while (c.key < k) {\n    p = c;\n    c = p.next;\n  }\n  if (c.key == k) { return true; } else { return false; }\n}\n";
@@ -107,9 +111,25 @@ fn steps_are_told_as_their_statements_stand(rt: HostRuntime) {
     }
 }
 
+/// Texts with locks, and how the report on each begins and ends.
+const LOCKED: [(&[u8], &[u8], &[u8]); 2] = [
+    // a node is forgotten as it is unlinked
+    (
+        STALE_SLOT,
+        b"structure slot\neffects 10\n",
+        b"\nrejected keep in remove at 38:7\n",
+    ),
+    // the walk of the new key ends at a node that no name was of
+    (
+        UNORDERED,
+        b"structure bucket\neffects 8\n",
+        b"\nrejected footprint in insert at 21:3\n",
+    ),
+];
+
 #[test]
-fn a_node_that_is_forgotten_as_it_is_unlinked_is_looked_at(rt: HostRuntime) {
-    let first = b"structure slot\neffects 10\n";
-    let last = b"\nrejected keep in remove at 38:7\n";
-    assert!(rt; reports(&rt, rt.alloc(), STALE_SLOT, first, last) == Ok(true));
+fn structures_with_locks_are_judged(rt: HostRuntime) {
+    for (text, first, last) in LOCKED {
+        assert!(rt; reports(&rt, rt.alloc(), text, first, last) == Ok(true));
+    }
 }
