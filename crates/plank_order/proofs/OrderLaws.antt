@@ -1,10 +1,10 @@
 -- Orders: closed facts have an order, and one in which a fact that is not known fails; one more assumption leaves them closed.
 use Rattle.std.proofs.Common.{◌≡◌, ◌⊎◌, ◌↔◌, ℕ, ◌+◌, ◌<◌, ◌≤◌, ◌==◌, ◌&&◌, ◌||◌, Bool, true, false, List, length, refl, sym, ◌∙◌, ap, subst, inl, inr, arith}
-use Rattle.std.proofs.lemmas.Bool.{cases_lt, eqb-true, eq-eqb, false≢true, false_from_ne_true, or_cases, or_left, or_right, and_parts, and_from, OnTrue_from, OnFalse_from}
+use Rattle.std.proofs.lemmas.Bool.{cases_lt, eqb-true, eq-eqb, false≢true, false_from_ne_true, or_left, OnTrue_from, OnFalse_from}
 use Rattle.std.specs.Bool.{OnTrue, OnFalse}
 use Rattle.plank_order.specs.Rows.{relates}
 use Rattle.plank_order.specs.Orders.{OrderFacts, Meets, AreClosed, HasOneOrder, HasTwoOrders}
-use Rattle.plank_order.proofs.RowLemmas.{count_below, count_below-le, count_below-within, count_below-grows, relates-past}
+use Rattle.plank_order.proofs.RowLemmas.{join_cases, join_right, count_below, count_below-le, count_below-within, count_below-grows, relates-past}
 
 -- a rank with a whole part moved up: the part's numbers that are in a part of it get one rank, and the others a higher one
 place : Bool → Bool → ℕ → ℕ
@@ -210,12 +210,6 @@ closed_diagonal k few size diagonal none =
         eqb-true x y (sym (diagonal x y l) ∙ h)
 
 -- ---- one more assumption
-
-join_cases : (p q r : Bool) → (p || (q && r)) ≡ true → (p ≡ true) ⊎ ((q ≡ true) × (r ≡ true))
-join_cases p q r h = elim (or_cases p (q && r) h) [ inl e ↦ inl e | inr e ↦ inr (and_parts q r e) ]
-
-join_right : (p q r : Bool) → q ≡ true → r ≡ true → (p || (q && r)) ≡ true
-join_right p q r e f = or_right p (q && r) (and_from q r e f)
 
 -- the at-most facts with a at most b as well
 module _ (k : OrderFacts) (closed : AreClosed k) (rows : List ℕ) (a b : ℕ)

@@ -1,10 +1,10 @@
 -- Partitions: closed facts have a partition, and one in which a fact that is not known fails; one more assumption leaves them closed.
 use Rattle.std.proofs.Common.{◌≡◌, ◌≢◌, ◌⊎◌, ◌↔◌, ℕ, ◌<◌, ◌≤◌, ◌==◌, ◌&&◌, ◌||◌, cond, Bool, true, false, List, length, slice_index, refl, sym, ◌∙◌, ap, subst, inl, inr, arith}
 use Rattle.std.specs.Bool.{OnTrue, OnFalse}
-use Rattle.std.proofs.lemmas.Bool.{cases_eq, cases_lt, eqb-true, eq-eqb, false≢true, or_cases, or_left, or_right, and_parts, and_from, cond-true, cond-false, ne_eqb, OnTrue_from, OnFalse_from}
+use Rattle.std.proofs.lemmas.Bool.{cases_eq, cases_lt, eqb-true, eq-eqb, false≢true, or_cases, or_left, or_right, cond-true, cond-false, ne_eqb, OnTrue_from, OnFalse_from}
 use Rattle.plank_order.specs.Rows.{is_set, relates}
 use Rattle.plank_order.specs.Partitions.{PartitionFacts, Meets, AreClosed}
-use Rattle.plank_order.proofs.RowLemmas.{relates-past, same_row}
+use Rattle.plank_order.proofs.RowLemmas.{join_cases, join_right, relates-past, same_row}
 
 module _ (k : PartitionFacts) (closed : AreClosed k) where
   -- the group of a name is its row
@@ -141,14 +141,8 @@ closed_diagonal k few size diagonal none =
 
 -- ---- one more assumption
 
-join_cases : (p q r : Bool) → (p || (q && r)) ≡ true → (p ≡ true) ⊎ ((q ≡ true) × (r ≡ true))
-join_cases p q r h = elim (or_cases p (q && r) h) [ inl e ↦ inl e | inr e ↦ inr (and_parts q r e) ]
-
 join_left : (p q r : Bool) → p ≡ true → (p || (q && r)) ≡ true
 join_left p q r e = or_left p (q && r) e
-
-join_right : (p q r : Bool) → q ≡ true → r ≡ true → (p || (q && r)) ≡ true
-join_right p q r e f = or_right p (q && r) (and_from q r e f)
 
 -- a and b are the same as well; members are the names of their groups, and others the names apart from one of them
 module _ (k n : PartitionFacts) (closed : AreClosed k) (a b : ℕ) (first : a < 16) (second : b < 16)

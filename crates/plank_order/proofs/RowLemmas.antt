@@ -1,13 +1,21 @@
 -- Rows of bits: one bit, a row with more numbers, rows that are extended one after another, and how many numbers have a property.
-use Rattle.std.proofs.Common.{◌≡◌, ◌≢◌, ℕ, zero, suc, ◌+◌, ◌*◌, ◌%◌, ◌^◌, ◌<◌, ◌≤◌, ◌==◌, ◌&&◌, ◌||◌, not, max, cond, Bool, true, false, List, length, get_or, set, bit_and, bit_or, refl, sym, ◌∙◌, ap, subst, inl, inr, arith}
+use Rattle.std.proofs.Common.{◌≡◌, ◌≢◌, ◌⊎◌, ℕ, zero, suc, ◌+◌, ◌*◌, ◌%◌, ◌^◌, ◌<◌, ◌≤◌, ◌==◌, ◌&&◌, ◌||◌, not, cond, Bool, true, false, List, length, get_or, set, bit_and, bit_or, refl, sym, ◌∙◌, ap, subst, inl, inr, arith}
 use Rattle.std.specs.Int.{bit_at}
-use Rattle.std.proofs.lemmas.Bool.{cases_eq, cases_lt, eq-eqb, ne_eqb, false≢true}
+use Rattle.std.proofs.lemmas.Bool.{cases_eq, cases_lt, eq-eqb, ne_eqb, false≢true, or_cases, or_right, and_parts, and_from}
 use Rattle.std.proofs.lemmas.Nat.{one_shl, pow_pos}
-use Rattle.std.proofs.lemmas.Nat.Bits.{bit_at_or, bit_at-lt, bit_at-zero, bit_at-pow_same, bit_at-pow_other, and_pow, same_from_bits}
+use Rattle.std.proofs.lemmas.Nat.Bits.{bit_at-lt, bit_at-zero, bit_at-pow_same, bit_at-pow_other, and_pow, same_from_bits}
 use Rattle.std.proofs.lemmas.List.{get_or_past, get_or-set_same, get_or-set_other, length-set, get_or-replicate, length-replicate}
 use Rattle.std.proofs.Math.ListN.{replicate}
 use Rattle.plank_base.proofs.Digits.{is_one-or, digit_times, digits_from_tests, same_tests, more_digits}
 use Rattle.plank_order.specs.Rows.{is_set, relates}
+
+-- ---- one bit: it is set, or two others are
+
+pub join_cases : (p q r : Bool) → (p || (q && r)) ≡ true → (p ≡ true) ⊎ ((q ≡ true) × (r ≡ true))
+join_cases p q r h = elim (or_cases p (q && r) h) [ inl e ↦ inl e | inr e ↦ inr (and_parts q r e) ]
+
+pub join_right : (p q r : Bool) → q ≡ true → r ≡ true → (p || (q && r)) ≡ true
+join_right p q r e f = or_right p (q && r) (and_from q r e f)
 
 -- ---- one row
 

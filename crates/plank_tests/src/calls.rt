@@ -88,6 +88,25 @@ pub(crate) fn writes<R: Threads + Sync>(
     Ok(taken.as_slice() == output)
 }
 
+/// A text, and what is written of it.
+pub(crate) type Case = (&'static [u8], &'static [u8]);
+
+/// The place of the first text of which the call writes something else.
+pub(crate) fn first_wrong<R: Threads + Sync>(
+    rt: &R,
+    alloc: Global,
+    words: &[&str],
+    cases: &[Case],
+) -> Result<Option<usize>, OutOfMemory> {
+    for (i, case) in cases.iter().enumerate() {
+        let (text, output) = *case;
+        if !writes(rt, alloc, words, text, output)? {
+            return Ok(Some(i));
+        }
+    }
+    Ok(None)
+}
+
 /// Whether the report on the text begins so and ends so.
 pub(crate) fn reports<R: Threads + Sync>(
     rt: &R,

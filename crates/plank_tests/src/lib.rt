@@ -10,6 +10,8 @@ mod large;
 #[cfg(test)]
 mod limits;
 #[cfg(test)]
+mod marks;
+#[cfg(test)]
 mod programs;
 #[cfg(test)]
 mod reading;

@@ -1,5 +1,5 @@
 //! Structures at a limit and above it.
-use crate::calls::{reports, writes};
+use crate::calls::writes;
 use plank_base::OutOfMemory;
 use std::alloc::Global;
 use std::marker::Sync;
@@ -142,12 +142,4 @@ fn structures_above_a_limit_are_too_large(rt: HostRuntime) {
     for case in &CASES {
         assert!(rt; is_said(&rt, rt.alloc(), case) == Ok(true));
     }
-}
-
-#[test]
-fn an_effect_may_have_so_many_facts(rt: HostRuntime) {
-    let text =
-        b"structure one;\nflag a; flag b; flag c; flag d; flag e; ptr l free; ptr r free;\nlock;\nroot a;\nstart a { key = MIN; }\nholds false;\nmethod contains(k) { var v1, v2, v3, v4, v5, v6, v7; atomic { with v1, v2, v3, v4, v5, v6, v7; write root.l = null; } return false; }\n";
-    let first = b"structure one\neffects 1\n";
-    assert!(rt; reports(&rt, rt.alloc(), text, first, b"\naccepted\n") == Ok(true));
 }

@@ -67,140 +67,124 @@ fn have_steps(alloc: Global, statements: &[u8], wanted: &[Step]) -> Result<bool,
     Ok(steps_of(alloc, statements)?.as_slice() == wanted)
 }
 
-#[test]
-fn blocks_and_assignments_lead_on(rt: HostRuntime) {
-    let cases: [(&[u8], &[Step]); 5] = [
-        // assignments lead on
-        (
-            b"n = new; p = null; p = root; p = c; return true;",
-            &[
-                Step::New(1),
-                Step::Copy(2),
-                Step::Copy(3),
-                Step::Copy(4),
-                Step::Return(true),
-            ],
-        ),
-        // a read is a block of one bind
-        (
-            b"c = p.next; return false;",
-            &[Step::Block(0, 0, 1, 0, 1, 1), Step::Return(false)],
-        ),
-        // a lock that is not free is waited for
-        (
-            b"lock p; unlock p; return true;",
-            &[
-                Step::Block(0, 1, 0, 1, 1, 0),
-                Step::Block(0, 1, 0, 1, 2, 2),
-                Step::Return(true),
-            ],
-        ),
-        // a block has its names, tests, binds and writes
-        (
-            b"atomic { with n, root; test !p.up; c = n.next; write p.next = n; write p.up = true; } return true;",
-            &[Step::Block(2, 1, 1, 2, 1, 1), Step::Return(true)],
-        ),
-        // a block goes to its else
-        (
-            b"atomic { test p.up; } else { p = null; } return true;",
-            &[
-                Step::Block(0, 1, 0, 0, 2, 1),
-                Step::Copy(2),
-                Step::Return(true),
-            ],
-        ),
-    ];
-    for (statements, wanted) in cases {
-        assert!(rt; have_steps(rt.alloc(), statements, wanted) == Ok(true));
-    }
-}
+/// Statements, and the steps of a method that has them alone.
+const STEPS: [(&[u8], &[Step]); 14] = [
+    // assignments lead on
+    (
+        b"n = new; p = null; p = root; p = c; return true;",
+        &[
+            Step::New(1),
+            Step::Copy(2),
+            Step::Copy(3),
+            Step::Copy(4),
+            Step::Return(true),
+        ],
+    ),
+    // a read is a block of one bind
+    (
+        b"c = p.next; return false;",
+        &[Step::Block(0, 0, 1, 0, 1, 1), Step::Return(false)],
+    ),
+    // a lock that is not free is waited for
+    (
+        b"lock p; unlock p; return true;",
+        &[
+            Step::Block(0, 1, 0, 1, 1, 0),
+            Step::Block(0, 1, 0, 1, 2, 2),
+            Step::Return(true),
+        ],
+    ),
+    // a block has its names, tests, binds and writes
+    (
+        b"atomic { with n, root; test !p.up; c = n.next; write p.next = n; write p.up = true; } return true;",
+        &[Step::Block(2, 1, 1, 2, 1, 1), Step::Return(true)],
+    ),
+    // a block goes to its else
+    (
+        b"atomic { test p.up; } else { p = null; } return true;",
+        &[
+            Step::Block(0, 1, 0, 0, 2, 1),
+            Step::Copy(2),
+            Step::Return(true),
+        ],
+    ),
+    // continue leads to the loop
+    (
+        b"loop { atomic { test p.next == c; write p.next = n; } else { continue; } break; } return true;",
+        &[Step::Block(0, 1, 0, 1, 1, 0), Step::Return(true)],
+    ),
+    // a walk
+    (
+        b"p = root; c = p.next; while (c.key < k) { p = c; c = p.next; } if (c.key == k) { return true; } else { return false; }",
+        &[
+            Step::Copy(1),
+            Step::Block(0, 0, 1, 0, 2, 2),
+            Step::Block(0, 1, 0, 0, 3, 5),
+            Step::Copy(4),
+            Step::Block(0, 0, 1, 0, 2, 2),
+            Step::Block(0, 1, 0, 0, 6, 7),
+            Step::Return(true),
+            Step::Return(false),
+        ],
+    ),
+    // an if at the end of a while leads back
+    (
+        b"while (c.key < k) { if (c.key == k) { c = null; } } return false;",
+        &[
+            Step::Block(0, 1, 0, 0, 1, 3),
+            Step::Block(0, 1, 0, 0, 2, 0),
+            Step::Copy(0),
+            Step::Return(false),
+        ],
+    ),
+    // break leads behind the loop
+    (
+        b"loop { if (c.key < k) { break; } else { c = null; } } return true;",
+        &[
+            Step::Block(0, 1, 0, 0, 2, 1),
+            Step::Copy(0),
+            Step::Return(true),
+        ],
+    ),
+    // each break is of its own loop
+    (
+        b"loop { loop { if (p.up) { break; } p = null; } if (c.up) { break; } } return true;",
+        &[
+            Step::Block(0, 1, 0, 0, 2, 1),
+            Step::Copy(0),
+            Step::Block(0, 1, 0, 0, 3, 0),
+            Step::Return(true),
+        ],
+    ),
+    // each continue is of its own loop
+    (
+        b"while (p.up) { while (c.up) { continue; } break; } return true;",
+        &[
+            Step::Block(0, 1, 0, 0, 1, 2),
+            Step::Block(0, 1, 0, 0, 1, 2),
+            Step::Return(true),
+        ],
+    ),
+    // a copy at the end leads to itself
+    (
+        b"return true; p = null;",
+        &[Step::Return(true), Step::Copy(1)],
+    ),
+    // a block at the end leads to itself
+    (
+        b"return true; atomic { test p.up; }",
+        &[Step::Return(true), Step::Block(0, 1, 0, 0, 1, 1)],
+    ),
+    // an if without statements leads on
+    (
+        b"if (p.up) { } return true;",
+        &[Step::Block(0, 1, 0, 0, 1, 1), Step::Return(true)],
+    ),
+];
 
 #[test]
-fn loops_lead_back_and_breaks_lead_on(rt: HostRuntime) {
-    let cases: [(&[u8], &[Step]); 6] = [
-        // continue leads to the loop
-        (
-            b"loop { atomic { test p.next == c; write p.next = n; } else { continue; } break; } return true;",
-            &[Step::Block(0, 1, 0, 1, 1, 0), Step::Return(true)],
-        ),
-        // a walk
-        (
-            b"p = root; c = p.next; while (c.key < k) { p = c; c = p.next; } if (c.key == k) { return true; } else { return false; }",
-            &[
-                Step::Copy(1),
-                Step::Block(0, 0, 1, 0, 2, 2),
-                Step::Block(0, 1, 0, 0, 3, 5),
-                Step::Copy(4),
-                Step::Block(0, 0, 1, 0, 2, 2),
-                Step::Block(0, 1, 0, 0, 6, 7),
-                Step::Return(true),
-                Step::Return(false),
-            ],
-        ),
-        // an if at the end of a while leads back
-        (
-            b"while (c.key < k) { if (c.key == k) { c = null; } } return false;",
-            &[
-                Step::Block(0, 1, 0, 0, 1, 3),
-                Step::Block(0, 1, 0, 0, 2, 0),
-                Step::Copy(0),
-                Step::Return(false),
-            ],
-        ),
-        // break leads behind the loop
-        (
-            b"loop { if (c.key < k) { break; } else { c = null; } } return true;",
-            &[
-                Step::Block(0, 1, 0, 0, 2, 1),
-                Step::Copy(0),
-                Step::Return(true),
-            ],
-        ),
-        // each break is of its own loop
-        (
-            b"loop { loop { if (p.up) { break; } p = null; } if (c.up) { break; } } return true;",
-            &[
-                Step::Block(0, 1, 0, 0, 2, 1),
-                Step::Copy(0),
-                Step::Block(0, 1, 0, 0, 3, 0),
-                Step::Return(true),
-            ],
-        ),
-        // each continue is of its own loop
-        (
-            b"while (p.up) { while (c.up) { continue; } break; } return true;",
-            &[
-                Step::Block(0, 1, 0, 0, 1, 2),
-                Step::Block(0, 1, 0, 0, 1, 2),
-                Step::Return(true),
-            ],
-        ),
-    ];
-    for (statements, wanted) in cases {
-        assert!(rt; have_steps(rt.alloc(), statements, wanted) == Ok(true));
-    }
-}
-
-#[test]
-fn what_no_step_reaches_leads_to_itself(rt: HostRuntime) {
-    let cases: [(&[u8], &[Step]); 3] = [
-        // a copy at the end leads to itself
-        (
-            b"return true; p = null;",
-            &[Step::Return(true), Step::Copy(1)],
-        ),
-        // a block at the end leads to itself
-        (
-            b"return true; atomic { test p.up; }",
-            &[Step::Return(true), Step::Block(0, 1, 0, 0, 1, 1)],
-        ),
-        // an if without statements leads on
-        (
-            b"if (p.up) { } return true;",
-            &[Step::Block(0, 1, 0, 0, 1, 1), Step::Return(true)],
-        ),
-    ];
-    for (statements, wanted) in cases {
+fn steps_lead_where_their_statements_say(rt: HostRuntime) {
+    for (statements, wanted) in STEPS {
         assert!(rt; have_steps(rt.alloc(), statements, wanted) == Ok(true));
     }
 }

@@ -1,5 +1,5 @@
 //! What is none of the grammar, and the canonical form of what is.
-use crate::calls::{ONE, writes};
+use crate::calls::{Case, ONE, first_wrong, writes};
 use crate::structures::SWEEP;
 
 /// Where a text of one node that is cut after each of its tokens is found to end too early.
@@ -47,7 +47,7 @@ fn cut_texts_are_malformed_at_their_end(rt: HostRuntime) {
 }
 
 /// Texts that are none of the grammar.
-const MALFORMED: [(&[u8], &[u8]); 45] = [
+const MALFORMED: [Case; 45] = [
     (b"", b"malformed at 1:1\n"),
     (
         b"structure one;\nroot a;\nstart a { key = MIN; }\nholds false;\nmethod contains(k) { return false; }\n;",
@@ -176,16 +176,8 @@ const MALFORMED: [(&[u8], &[u8]); 45] = [
     ),
 ];
 
-#[test]
-fn malformed_texts_tell_the_first_place_that_shows_it(rt: HostRuntime) {
-    for (text, output) in MALFORMED {
-        assert!(rt; writes(&rt, rt.alloc(), &["verify"], text, output) == Ok(true));
-        assert!(rt; writes(&rt, rt.alloc(), &["print"], text, output) == Ok(true));
-    }
-}
-
 /// Conditions in 32 and in 33 pairs of parentheses, and a bracket too many where no bracket may stand.
-const NESTED: [(&[u8], &[u8]); 4] = [
+const NESTED: [Case; 4] = [
     (
         b"structure one;\nroot a;\nstart a { key = MIN; }\nholds ((((((((((((((((((((((((((((((((false))))))))))))))))))))))))))))))));\nmethod contains(k) { return false; }\n",
         b"structure one\neffects 0\naccepted\n",
@@ -205,14 +197,23 @@ const NESTED: [(&[u8], &[u8]); 4] = [
 ];
 
 #[test]
-fn no_more_than_32_brackets_are_open_at_once(rt: HostRuntime) {
-    for (text, output) in NESTED {
-        assert!(rt; writes(&rt, rt.alloc(), &["verify"], text, output) == Ok(true));
-    }
+fn texts_of_no_grammar_tell_the_first_place_that_shows_it(rt: HostRuntime) {
+    assert_eq!(rt;
+        first_wrong(&rt, rt.alloc(), &["verify"], &MALFORMED),
+        Ok(None)
+    );
+    assert_eq!(rt;
+        first_wrong(&rt, rt.alloc(), &["print"], &MALFORMED),
+        Ok(None)
+    );
+    assert_eq!(rt;
+        first_wrong(&rt, rt.alloc(), &["verify"], &NESTED),
+        Ok(None)
+    );
 }
 
 /// Texts and their canonical forms.
-const PRINTS: [(&[u8], &[u8]); 4] = [
+const PRINTS: [Case; 4] = [
     (
         SWEEP,
         b"structure michael;\nflag marked;\nptr next asc;\nroot head;\nstart head {\n  key = MIN;\n  next = tail;\n}\nstart tail {\n  key = MAX;\n}\nedge next : x.key < j;\nholds x.key == j && !x.marked;\nkeep linked : x.key == MAX || x.next != null;\nkeep ends : !x.marked || MIN < x.key && x.key < MAX;\nkeep inset : x.marked || j < x.key || j in x;\nmethod insert(k) {\n  var p, c, s, n;\n  n = new;\n  p = root;\n  c = p.next;\n  loop {\n    if (c.marked) {\n      s = c.next;\n      atomic {\n        test p.next == c;\n        test !p.marked;\n        write p.next = s;\n      } else {\n        p = root;\n        s = p.next;\n      }\n      c = s;\n    } else {\n      if (c.key < k) {\n        p = c;\n        c = p.next;\n      } else {\n        if (c.key == k) {\n          return false;\n        } else {\n          atomic {\n            write n.next = c;\n          }\n          atomic {\n            test p.next == c;\n            test !p.marked;\n            write p.next = n;\n          } else {\n            p = root;\n            c = p.next;\n            continue;\n          }\n          return true;\n        }\n      }\n    }\n  }\n}\nmethod delete(k) {\n  var p, c, s;\n  p = root;\n  c = p.next;\n  loop {\n    if (c.marked) {\n      s = c.next;\n      atomic {\n        test p.next == c;\n        test !p.marked;\n        write p.next = s;\n      } else {\n        p = root;\n        s = p.next;\n      }\n      c = s;\n    } else {\n      if (c.key < k) {\n        p = c;\n        c = p.next;\n      } else {\n        if (c.key == k) {\n          atomic {\n            test !c.marked;\n            write c.marked = true;\n          } else {\n            continue;\n          }\n          s = c.next;\n          atomic {\n            test p.next == c;\n            test !p.marked;\n            write p.next = s;\n          }\n          return true;\n        } else {\n          return false;\n        }\n      }\n    }\n  }\n}\nmethod contains(k) {\n  var p, c;\n  p = root;\n  c = p.next;\n  while (c.key < k) {\n    p = c;\n    c = p.next;\n  }\n  if (c.key == k) {\n    if (c.marked) {\n      return false;\n    } else {\n      return true;\n    }\n  } else {\n    return false;\n  }\n}\nmethod sweep as upkeep(k) {\n  var p, c, s;\n  p = root;\n  c = p.next;\n  loop {\n    if (c.marked) {\n      s = c.next;\n      atomic {\n        test p.next == c;\n        test !p.marked;\n        write p.next = s;\n      }\n      return true;\n    }\n    if (k <= c.key) {\n      return true;\n    }\n    p = c;\n    c = p.next;\n  }\n}\n",

@@ -23,118 +23,131 @@ const ROUND: &[u8] =
 const PUSH: &[u8] =
     b"structure push;\nptr next free;\nroot a;\nstart a { key = MIN; }\nedge next : x.key < j;\nholds x.key == j;\nmethod insert(k) {\n  var n;\n  n = new;\n  atomic { write root.next = n; }\n  return true;\n}\n";
 
-/// A schedule with its line `text`, the text behind it, and what is written.
+/// A schedule with its line `text`, the text behind it, how the call ends, and what is written.
 struct Case {
     schedule: &'static [u8],
     text: &'static [u8],
+    status: Status,
     output: &'static [u8],
 }
 
-fn is_answered<R: Threads + Sync>(
-    rt: &R,
-    alloc: Global,
-    case: &Case,
-    status: Status,
-) -> Result<bool, OutOfMemory> {
+fn is_answered<R: Threads + Sync>(rt: &R, alloc: Global, case: &Case) -> Result<bool, OutOfMemory> {
     let mut input = Vec::from_slice(alloc, case.schedule)?;
     input.extend_from_slice(case.text)?;
-    answers(rt, alloc, &["trace"], &input, status, case.output)
+    answers(rt, alloc, &["trace"], &input, case.status, case.output)
 }
 
-const RUNS: [Case; 7] = [
+/// Runs, shown step by step; schedules with a line that is none; and schedules with a step that cannot be made.
+const CASES: [Case; 15] = [
     // A call that walks to the end and answers.
     Case {
         schedule: b"1 call contains 7\n1 go\n1 go\n1 go\n1 go\n1 go\ntext\n",
         text: ENDS,
+        status: Status::Done,
         output: b"1 1 call contains 7\n  7 walk 0 1 out\n2 1 go 11:3\n  7 walk 0 1 out\n3 1 go 12:3\n  7 walk 0 1 out\n4 1 go 13:3\n  7 walk 0 1 out\n5 1 go 17:3\n  7 walk 0 1 out\n6 1 go 17:43 answer false\n  7 walk 0 1 out\n",
     },
     // Two calls of one method: fresh nodes have the next numbers, and the second write loses the first node.
     Case {
         schedule: b"0 call insert 4\n1 call insert 9\n0 go\n1 go\n0 go\n0 go\n1 go\n1 go\ntext\n",
         text: PUSH,
+        status: Status::Done,
         output: b"1 0 call insert 4\n  4 walk 0 out\n  9 walk 0 out\n2 1 call insert 9\n  4 walk 0 out\n  9 walk 0 out\n3 0 go 9:3\n  4 walk 0 out\n  9 walk 0 out\n4 1 go 9:3\n  4 walk 0 out\n  9 walk 0 out\n5 0 go 10:3\n  4 walk 0 1 in\n  9 walk 0 1 out\n6 0 go 11:3 answer true\n  4 walk 0 1 in\n  9 walk 0 1 out\n7 1 go 10:3\n  4 walk 0 2 out\n  9 walk 0 2 in\n8 1 go 11:3 answer true\n  4 walk 0 2 out\n  9 walk 0 2 in\n",
     },
     // A field of null.
     Case {
         schedule: b"0 call contains 5\n0 go\ntext\n",
         text: GAP,
+        status: Status::Done,
         output: b"1 0 call contains 5\n  5 walk 0 out\n2 0 null 7:3\n",
     },
     // Keys rise; what stands behind a field of null is not looked at, but its keys are shown.
     Case {
         schedule: b"3 call contains 9\n0 call contains -5\n3 go\n63 go\n2 call contains 0\ntext\n",
         text: GAP,
+        status: Status::Done,
         output: b"1 3 call contains 9\n  -5 walk 0 out\n  0 walk 0 out\n  9 walk 0 out\n2 0 call contains -5\n  -5 walk 0 out\n  0 walk 0 out\n  9 walk 0 out\n3 3 null 7:3\n",
     },
     // A walk that never ends.
     Case {
         schedule: b"0 call contains 5\ntext\n",
         text: RING,
+        status: Status::Done,
         output: b"1 0 call contains 5\n  5 walk 0 1 cycles out\n",
     },
     // An upkeep answers nothing, and can be called again.
     Case {
         schedule: b"0 call sweep 5\n0 go\n0 call sweep 5\ntext\n",
         text: ROUND,
+        status: Status::Done,
         output: b"1 0 call sweep 5\n  5 walk 0 out\n2 0 go 6:29\n  5 walk 0 out\n3 0 call sweep 5\n  5 walk 0 out\n",
     },
     // Nobody moves.
     Case {
         schedule: b"text\n",
         text: ONE,
+        status: Status::Done,
         output: b"",
+    },
+    // Nothing at all.
+    Case {
+        schedule: b"",
+        text: b"",
+        status: Status::BadSchedule(1),
+        output: b"bad schedule 1\n",
+    },
+    // The second line is not whole.
+    Case {
+        schedule: b"0 go\n1 go",
+        text: b"",
+        status: Status::BadSchedule(2),
+        output: b"bad schedule 2\n",
+    },
+    Case {
+        schedule: b"0 call contains 1\n0 go \ntext\n",
+        text: ONE,
+        status: Status::BadSchedule(2),
+        output: b"bad schedule 2\n",
+    },
+    Case {
+        schedule: b"0 go\n0 go\ntext\r\n",
+        text: ONE,
+        status: Status::BadSchedule(3),
+        output: b"bad schedule 3\n",
+    },
+    // No call is pending.
+    Case {
+        schedule: b"0 go\ntext\n",
+        text: ENDS,
+        status: Status::BadStep(1),
+        output: b"bad step 1\n",
+    },
+    // One is pending already.
+    Case {
+        schedule: b"0 call contains 1\n0 call contains 1\ntext\n",
+        text: ENDS,
+        status: Status::BadStep(2),
+        output: b"bad step 2\n",
+    },
+    // There is no such method.
+    Case {
+        schedule: b"0 call contains 1\n1 call missing 1\ntext\n",
+        text: ENDS,
+        status: Status::BadStep(2),
+        output: b"bad step 2\n",
+    },
+    // The call has ended.
+    Case {
+        schedule: b"0 call contains 1\n0 go\n0 go\ntext\n",
+        text: ONE,
+        status: Status::BadStep(3),
+        output: b"bad step 3\n",
     },
 ];
 
 #[test]
-fn runs_are_shown_step_by_step(rt: HostRuntime) {
-    for case in &RUNS {
-        assert!(rt; is_answered(&rt, rt.alloc(), case, Status::Done) == Ok(true));
-    }
-}
-
-/// Schedules with a line that is none, and its number.
-const BAD_SCHEDULES: [(u32, Case); 4] = [
-    // Nothing at all.
-    (
-        1,
-        Case {
-            schedule: b"",
-            text: b"",
-            output: b"bad schedule 1\n",
-        },
-    ),
-    // The second line is not whole.
-    (
-        2,
-        Case {
-            schedule: b"0 go\n1 go",
-            text: b"",
-            output: b"bad schedule 2\n",
-        },
-    ),
-    (
-        2,
-        Case {
-            schedule: b"0 call contains 1\n0 go \ntext\n",
-            text: ONE,
-            output: b"bad schedule 2\n",
-        },
-    ),
-    (
-        3,
-        Case {
-            schedule: b"0 go\n0 go\ntext\r\n",
-            text: ONE,
-            output: b"bad schedule 3\n",
-        },
-    ),
-];
-
-#[test]
-fn the_first_line_that_is_of_no_schedule_is_told(rt: HostRuntime) {
-    for (line, case) in &BAD_SCHEDULES {
-        assert!(rt; is_answered(&rt, rt.alloc(), case, Status::BadSchedule(*line)) == Ok(true));
+fn schedules_are_run_or_tell_their_first_fault(rt: HostRuntime) {
+    for case in &CASES {
+        assert!(rt; is_answered(&rt, rt.alloc(), case) == Ok(true));
     }
 }
 
@@ -165,53 +178,6 @@ fn is_no_line<R: Threads + Sync>(rt: &R, alloc: Global, line: &[u8]) -> Result<b
 fn lines_of_neither_form_are_refused(rt: HostRuntime) {
     for line in OTHER_LINES {
         assert!(rt; is_no_line(&rt, rt.alloc(), line) == Ok(true));
-    }
-}
-
-/// Schedules with a step that cannot be made, and its number.
-const BAD_STEPS: [(u32, Case); 4] = [
-    // No call is pending.
-    (
-        1,
-        Case {
-            schedule: b"0 go\ntext\n",
-            text: ENDS,
-            output: b"bad step 1\n",
-        },
-    ),
-    // One is pending already.
-    (
-        2,
-        Case {
-            schedule: b"0 call contains 1\n0 call contains 1\ntext\n",
-            text: ENDS,
-            output: b"bad step 2\n",
-        },
-    ),
-    // There is no such method.
-    (
-        2,
-        Case {
-            schedule: b"0 call contains 1\n1 call missing 1\ntext\n",
-            text: ENDS,
-            output: b"bad step 2\n",
-        },
-    ),
-    // The call has ended.
-    (
-        3,
-        Case {
-            schedule: b"0 call contains 1\n0 go\n0 go\ntext\n",
-            text: ONE,
-            output: b"bad step 3\n",
-        },
-    ),
-];
-
-#[test]
-fn the_first_step_that_cannot_be_made_is_told_alone(rt: HostRuntime) {
-    for (step, case) in &BAD_STEPS {
-        assert!(rt; is_answered(&rt, rt.alloc(), case, Status::BadStep(*step)) == Ok(true));
     }
 }
 
@@ -284,13 +250,6 @@ fn status_of_steps<R: Threads + Sync>(
     status_of(rt, alloc, &["trace"], &input)
 }
 
-#[test]
-fn a_schedule_may_have_256_steps(rt: HostRuntime) {
-    let too_long = Status::TooLong(Measure::Steps, 257, 256);
-    assert!(rt; status_of_steps(&rt, rt.alloc(), 256) == Ok(Status::Done));
-    assert!(rt; status_of_steps(&rt, rt.alloc(), 257) == Ok(too_long));
-}
-
 /// The status where so many threads, up to ten, begin a call at a key of their own, and the first one's key is told
 /// once more.
 fn status_of_keys<R: Threads + Sync>(
@@ -312,8 +271,11 @@ fn status_of_keys<R: Threads + Sync>(
 }
 
 #[test]
-fn a_schedule_may_have_8_keys(rt: HostRuntime) {
-    let too_long = Status::TooLong(Measure::Keys, 9, 8);
+fn a_schedule_may_have_256_steps_and_8_keys(rt: HostRuntime) {
+    let too_many_steps = Status::TooLong(Measure::Steps, 257, 256);
+    assert!(rt; status_of_steps(&rt, rt.alloc(), 256) == Ok(Status::Done));
+    assert!(rt; status_of_steps(&rt, rt.alloc(), 257) == Ok(too_many_steps));
+    let too_many_keys = Status::TooLong(Measure::Keys, 9, 8);
     assert!(rt; status_of_keys(&rt, rt.alloc(), 8) == Ok(Status::Done));
-    assert!(rt; status_of_keys(&rt, rt.alloc(), 9) == Ok(too_long));
+    assert!(rt; status_of_keys(&rt, rt.alloc(), 9) == Ok(too_many_keys));
 }

@@ -1,12 +1,9 @@
 //! Texts that break rules of typing: a case for each rule, and for each kind of statement at its places.
-use crate::calls::{reports, writes};
+use crate::calls::{Case, first_wrong, writes};
 use plank_base::OutOfMemory;
 use std::alloc::Global;
 use std::marker::Sync;
 use std::thread::Threads;
-
-/// A part of a text that breaks a rule, and what is said of the text.
-type Case = (&'static [u8], &'static [u8]);
 
 /// Whether a text of these three pieces is refused so.
 fn is_refused<R: Threads + Sync>(
@@ -23,8 +20,24 @@ fn is_refused<R: Threads + Sync>(
     writes(rt, alloc, &["verify"], &text, output)
 }
 
+/// The place of the first part that is not refused so between these pieces.
+fn first_taken<R: Threads + Sync>(
+    rt: &R,
+    alloc: Global,
+    before: &[u8],
+    cases: &[Case],
+    after: &[u8],
+) -> Result<Option<usize>, OutOfMemory> {
+    for (i, case) in cases.iter().enumerate() {
+        if !is_refused(rt, alloc, before, *case, after)? {
+            return Ok(Some(i));
+        }
+    }
+    Ok(None)
+}
+
 /// Texts that break one rule of typing, and what is said of them.
-const ILL_TYPED: [(&[u8], &[u8]); 6] = [
+const ILL_TYPED: [Case; 6] = [
     (
         b"structure ends;\nptr next asc;\nroot head;\nstart head { key = MIN; next = tail; }\nstart tail { key = MAX; }\nedge next : x.key < j;\nholds x.key == j;\nkeep linked : x.key == MAX || x.next != null;\nmethod contains(k) {\n  var p, c;\n  q = root;\n  c = p.next;\n  while (c.key < k) {\n    p = c;\n    c = p.next;\n  }\n  if (c.key == k) { return true; } else { return false; }\n}\n",
         b"ill-typed unknown at 11:3\n",
@@ -50,13 +63,6 @@ const ILL_TYPED: [(&[u8], &[u8]); 6] = [
         b"ill-typed not-one-root at 4:6\n",
     ),
 ];
-
-#[test]
-fn each_rule_of_typing_tells_its_kind_and_place(rt: HostRuntime) {
-    for (text, output) in ILL_TYPED {
-        assert!(rt; writes(&rt, rt.alloc(), &["verify"], text, output) == Ok(true));
-    }
-}
 
 /// Lines of a header that break a rule.
 const HEADERS: [Case; 18] = [
@@ -151,15 +157,6 @@ const HEADERS: [Case; 18] = [
         b"ill-typed twice at 2:64\n",
     ),
 ];
-
-#[test]
-fn lines_of_a_header_break_their_rules(rt: HostRuntime) {
-    let before = b"structure s;\n";
-    let after = b"\nholds false;\nmethod contains(k) { return false; }\n";
-    for case in HEADERS {
-        assert!(rt; is_refused(&rt, rt.alloc(), before, case, after) == Ok(true));
-    }
-}
 
 /// Conditions of a header that break a rule.
 const CONDITIONS: [Case; 27] = [
@@ -258,15 +255,6 @@ const CONDITIONS: [Case; 27] = [
     ),
 ];
 
-#[test]
-fn conditions_of_a_header_break_their_rules(rt: HostRuntime) {
-    let before = b"structure s; flag gone; ptr next asc; root h;\nstart h { key = MIN; }\n";
-    let after = b"\nmethod contains(k) { return false; }\n";
-    for case in CONDITIONS {
-        assert!(rt; is_refused(&rt, rt.alloc(), before, case, after) == Ok(true));
-    }
-}
-
 /// Methods that break a rule.
 const METHODS: [Case; 6] = [
     // a method has no kind
@@ -300,15 +288,6 @@ const METHODS: [Case; 6] = [
         b"ill-typed unknown at 4:57\n",
     ),
 ];
-
-#[test]
-fn methods_break_their_rules(rt: HostRuntime) {
-    let before = b"structure s; root h;\nstart h { key = MIN; }\nholds true;\n";
-    let after = b"\n";
-    for case in METHODS {
-        assert!(rt; is_refused(&rt, rt.alloc(), before, case, after) == Ok(true));
-    }
-}
 
 /// Statements that break a rule.
 const STATEMENTS: [Case; 69] = [
@@ -617,16 +596,6 @@ const STATEMENTS: [Case; 69] = [
     ),
 ];
 
-#[test]
-fn statements_break_their_rules(rt: HostRuntime) {
-    let before =
-        b"structure s; flag gone; ptr next asc; root h;\nstart h { key = MIN; }\nholds true;\nmethod contains(k) { var p, c, n;\n";
-    let after = b"\n}\n";
-    for case in STATEMENTS {
-        assert!(rt; is_refused(&rt, rt.alloc(), before, case, after) == Ok(true));
-    }
-}
-
 /// Statements where nodes have locks that break a rule.
 const LOCKED: [Case; 2] = [
     // lock of an unknown name
@@ -634,16 +603,6 @@ const LOCKED: [Case; 2] = [
     // unlock of the argument
     (b"unlock k; return false;", b"ill-typed wrong-kind at 5:8\n"),
 ];
-
-#[test]
-fn statements_with_locks_break_their_rules(rt: HostRuntime) {
-    let before =
-        b"structure s; flag gone; ptr next asc; lock; root h;\nstart h { key = MIN; }\nholds true;\nmethod contains(k) { var p, c, n;\n";
-    let after = b"\n}\n";
-    for case in LOCKED {
-        assert!(rt; is_refused(&rt, rt.alloc(), before, case, after) == Ok(true));
-    }
-}
 
 /// Texts that break no rule, and what is said of them.
 const WELL_TYPED: [Case; 7] = [
@@ -684,17 +643,53 @@ const WELL_TYPED: [Case; 7] = [
     ),
 ];
 
+/// What stands before parts that break a rule, the parts, and what stands after them.
+const BETWEEN: [(&[u8], &[Case], &[u8]); 5] = [
+    (
+        b"structure s;\n",
+        &HEADERS,
+        b"\nholds false;\nmethod contains(k) { return false; }\n",
+    ),
+    (
+        b"structure s; flag gone; ptr next asc; root h;\nstart h { key = MIN; }\n",
+        &CONDITIONS,
+        b"\nmethod contains(k) { return false; }\n",
+    ),
+    (
+        b"structure s; root h;\nstart h { key = MIN; }\nholds true;\n",
+        &METHODS,
+        b"\n",
+    ),
+    (
+        b"structure s; flag gone; ptr next asc; root h;\nstart h { key = MIN; }\nholds true;\nmethod contains(k) { var p, c, n;\n",
+        &STATEMENTS,
+        b"\n}\n",
+    ),
+    (
+        b"structure s; flag gone; ptr next asc; lock; root h;\nstart h { key = MIN; }\nholds true;\nmethod contains(k) { var p, c, n;\n",
+        &LOCKED,
+        b"\n}\n",
+    ),
+];
+
 #[test]
-fn texts_that_break_no_rule_are_typed(rt: HostRuntime) {
-    for (text, output) in WELL_TYPED {
-        assert!(rt; writes(&rt, rt.alloc(), &["verify"], text, output) == Ok(true));
+fn parts_of_texts_break_their_rules(rt: HostRuntime) {
+    for (before, cases, after) in BETWEEN {
+        assert_eq!(rt;
+            first_taken(&rt, rt.alloc(), before, cases, after),
+            Ok(None)
+        );
     }
 }
 
 #[test]
-fn all_kinds_of_statements_are_typed(rt: HostRuntime) {
-    let text =
-        b"structure s; flag gone; ptr next asc; lock; root h;\nstart h { key = MIN; }\nholds true;\nmethod contains(k) { var p, c, n;\nlock p; unlock root; loop { p = new; c = null; n = root; p = n; c = n.next; while (p.gone && p.key < k) { continue; } atomic { with c; test p.next == c; test !root.gone; n = root.next; write p.next = c; write p.gone = true; } else { break; } if (p == c) { return true; } else { continue; } } return false;\n}\n";
-    let first = b"structure s\neffects 1\n";
-    assert!(rt; reports(&rt, rt.alloc(), text, first, b"\nrejected start\n") == Ok(true));
+fn texts_are_typed_or_tell_the_first_broken_rule(rt: HostRuntime) {
+    assert_eq!(rt;
+        first_wrong(&rt, rt.alloc(), &["verify"], &ILL_TYPED),
+        Ok(None)
+    );
+    assert_eq!(rt;
+        first_wrong(&rt, rt.alloc(), &["verify"], &WELL_TYPED),
+        Ok(None)
+    );
 }

@@ -24,7 +24,17 @@ fn has_verdict<R: Threads + Sync>(rt: &R, alloc: Global, case: Case) -> Result<b
 /// A set that stays empty.
 const EMPTY: &[u8] = b"flag up; root a; start a { key = MIN; } holds false;";
 
-const ANSWERS: [Case; 13] = [
+const ONE_RETURN: &[u8] = b"method contains(k) { return false; }";
+
+const IN_SET: &[u8] = b"rejected answer in contains at 3:22";
+
+const DELETE_TRUE: &[u8] = b"method delete(k) { return true; }";
+
+const NO_CHANGE: &[u8] = b"rejected answer in delete at 3:20";
+
+/// Answers of a set that stays empty; roots, which may be what the keeps allow; two edges of one key; and start nodes
+/// that keep the rules of the header, or do not.
+const CASES: [Case; 37] = [
     (EMPTY, b"method contains(k) { return false; }", b"accepted"),
     (
         EMPTY,
@@ -75,20 +85,6 @@ const ANSWERS: [Case; 13] = [
         b"method contains(k) { return true; }",
         b"rejected start",
     ),
-];
-
-#[test]
-fn answers_of_a_set_that_stays_empty_are_judged(rt: HostRuntime) {
-    for case in ANSWERS {
-        assert!(rt; has_verdict(&rt, rt.alloc(), case) == Ok(true));
-    }
-}
-
-const ONE_RETURN: &[u8] = b"method contains(k) { return false; }";
-
-const IN_SET: &[u8] = b"rejected answer in contains at 3:22";
-
-const ROOTS: [Case; 8] = [
     // some lawful root has the flag
     (
         b"flag up; root a; start a { key = MIN; } holds x.up;",
@@ -135,20 +131,6 @@ const ROOTS: [Case; 8] = [
         ONE_RETURN,
         b"rejected start",
     ),
-];
-
-#[test]
-fn roots_may_be_what_the_keeps_allow(rt: HostRuntime) {
-    for case in ROOTS {
-        assert!(rt; has_verdict(&rt, rt.alloc(), case) == Ok(true));
-    }
-}
-
-const DELETE_TRUE: &[u8] = b"method delete(k) { return true; }";
-
-const NO_CHANGE: &[u8] = b"rejected answer in delete at 3:20";
-
-const EDGES: [Case; 6] = [
     (
         b"ptr l free; ptr r free; root a; start a { key = MIN; } edge l : x.key < j; edge r : x.key < j; holds false;",
         DELETE_TRUE,
@@ -183,16 +165,6 @@ const EDGES: [Case; 6] = [
         DELETE_TRUE,
         NO_CHANGE,
     ),
-];
-
-#[test]
-fn two_edges_of_one_key_fail(rt: HostRuntime) {
-    for case in EDGES {
-        assert!(rt; has_verdict(&rt, rt.alloc(), case) == Ok(true));
-    }
-}
-
-const STARTS: [Case; 10] = [
     (
         b"ptr next asc; root a; start a { key = MIN; next = b; } start b { key = MAX; } edge next : x.key < j; holds x.key == j;",
         DELETE_TRUE,
@@ -248,8 +220,8 @@ const STARTS: [Case; 10] = [
 ];
 
 #[test]
-fn start_nodes_keep_the_rules_of_the_header(rt: HostRuntime) {
-    for case in STARTS {
+fn structures_of_one_return_are_judged(rt: HostRuntime) {
+    for case in CASES {
         assert!(rt; has_verdict(&rt, rt.alloc(), case) == Ok(true));
     }
 }

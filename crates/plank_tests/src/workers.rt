@@ -1,54 +1,112 @@
-//! Workers: how many the words ask for, and what they answer.
-use crate::calls::{ENDS, ONE, answers, writes};
-use crate::structures::LAMP;
-use plank_top::Status;
+//! Workers: what is answered is the same by any number of them, and they run at once.
+use crate::calls::{ENDS, ONE, PLAIN, called_by, writes};
+use crate::structures::{LAMP, LAMP_EFFECTS, LAMP_REPORT, LOST, LOST_REPORT};
+use plank_base::OutOfMemory;
+use plank_io::Gate;
+use std::alloc::Global;
+use std::marker::Sync;
+use std::sync::atomic::{AtomicU64, Ordering};
+use std::thread::Threads;
 
-/// Words that ask for a report on the list that is only read.
-const ASKED: [&[&str]; 4] = [
-    &["verify", "--workers=2"],
-    &["verify", "--workers", "0002"],
-    &["verify", "--workers", "64"],
-    &["verify", "--workers", "1"],
+/// Words that ask for different numbers of workers, a text, and what is written of it by each of them.
+const ANSWERS: [(&[&[&str]], &[u8], &[u8]); 4] = [
+    (
+        &[
+            &["verify", "--workers", "1"],
+            &["verify", "--workers", "2"],
+            &["verify", "--workers=4"],
+            &["verify", "--workers=64"],
+        ],
+        ONE,
+        b"structure one\neffects 0\naccepted\n",
+    ),
+    (
+        &[
+            &["verify", "--workers=2"],
+            &["verify", "--workers", "0002"],
+            &["verify", "--workers", "64"],
+        ],
+        ENDS,
+        b"structure ends\neffects 0\naccepted\n",
+    ),
+    (
+        &[&["verify", "--workers=2"], &["verify", "--workers=4"]],
+        LAMP,
+        LAMP_REPORT,
+    ),
+    (
+        &[&["effects", "--workers=2"], &["effects", "--workers", "5"]],
+        LAMP,
+        LAMP_EFFECTS,
+    ),
 ];
 
+/// Whether each of these calls writes this.
+fn all_write<R: Threads + Sync>(
+    rt: &R,
+    alloc: Global,
+    calls: &[&[&str]],
+    text: &[u8],
+    output: &[u8],
+) -> Result<bool, OutOfMemory> {
+    for words in calls {
+        if !writes(rt, alloc, words, text, output)? {
+            return Ok(false);
+        }
+    }
+    Ok(true)
+}
+
 #[test]
-fn any_number_of_workers_writes_the_same_report(rt: HostRuntime) {
-    for words in ASKED {
-        let output = b"structure ends\neffects 0\naccepted\n";
-        assert!(rt; answers(&rt, rt.alloc(), words, ENDS, Status::Accepted, output) == Ok(true));
+fn any_number_of_workers_writes_the_same(rt: HostRuntime) {
+    for (calls, text, output) in ANSWERS {
+        assert!(rt; all_write(&rt, rt.alloc(), calls, text, output) == Ok(true));
     }
 }
 
 #[test]
-fn a_rejection_and_its_effects_are_the_same_by_several_workers(rt: HostRuntime) {
-    for workers in ["--workers=2", "--workers=5"] {
-        let report =
-            b"structure lamp\neffects 1\neffect 1 light 6:29\n  write root.up = true;\n  root != null\n  root.key < k\n  root.key <= k\n  root.key == MIN\n  root.key < MAX\n  root shared\n  k in root\nrejected change in light at 6:29\n";
-        assert!(rt; writes(&rt, rt.alloc(), &["verify", workers], LAMP, report) == Ok(true));
-        let effects =
-            b"structure lamp\neffects 1\neffect 1 light 6:29\n  write root.up = true;\n  root != null\n  root.key < k\n  root.key <= k\n  root.key == MIN\n  root.key < MAX\n  root shared\n  k in root\n";
-        let words = &["effects", workers];
-        assert!(rt; answers(&rt, rt.alloc(), words, LAMP, Status::Done, effects) == Ok(true));
+fn several_workers_write_the_report_on_a_lost_insert(rt: HostRuntime) {
+    let calls: &[&[&str]] = &[&["verify", "--workers=2"], &["verify", "--workers", "4"]];
+    assert!(rt; all_write(&rt, rt.alloc(), calls, LOST, LOST_REPORT) == Ok(true));
+}
+
+/// Holds worker 1 at its first turn until worker 2 has come to one.
+#[derive(Drop)]
+struct Held {
+    second: AtomicU64,
+    met: AtomicU64,
+}
+
+impl Held {
+    fn wait(&self) {
+        for _ in 0..2_000_000_000 {
+            if self.second.load(Ordering::SeqCst) == 1 {
+                self.met.store(1, Ordering::SeqCst);
+                return;
+            }
+        }
     }
 }
 
-/// Words that ask for nothing.
-const REFUSED: [&[&str]; 9] = [
-    &[],
-    &["prove"],
-    &["verify", "--workers", "0"],
-    &["verify", "--workers", "65"],
-    &["verify", "--workers"],
-    &["verify", "x"],
-    &["print", "x"],
-    &["large", "1"],
-    &["large", "17"],
-];
+impl Gate for Held {
+    fn pass(&self, worker: u32, turn: u64) {
+        if worker == 2 {
+            self.second.store(1, Ordering::SeqCst);
+        }
+        if worker == 1 && turn == 1 {
+            self.wait();
+        }
+    }
+}
 
 #[test]
-fn words_that_ask_for_nothing_are_refused(rt: HostRuntime) {
-    for words in REFUSED {
-        let output = b"usage fault\n";
-        assert!(rt; answers(&rt, rt.alloc(), words, ONE, Status::Usage, output) == Ok(true));
-    }
+fn two_workers_run_at_once(rt: HostRuntime) {
+    let gate = Held {
+        second: AtomicU64::new(0),
+        met: AtomicU64::new(0),
+    };
+    let words = &["verify", "--workers", "2"];
+    let (_, taken) = called_by(&rt, rt.alloc(), words, LAMP, &PLAIN, &gate).expect(&rt, "memory");
+    assert_eq!(rt; gate.met.load(Ordering::SeqCst), 1);
+    assert!(rt; taken.as_slice() == LAMP_REPORT);
 }

@@ -2,7 +2,7 @@
 use Rattle.std.proofs.Common.{◌≡◌, ℕ, ◌+◌, ◌*◌, Bool, true, false, Option, refl, sym, ◌∙◌, ap, subst, arith}
 use Rattle.std.specs.Prelude.{◌&&◌, slice_index_or}
 use Rattle.std.specs.List.{list_all}
-use Rattle.std.proofs.lemmas.Bool.{true≢false}
+use Rattle.std.proofs.lemmas.Bool.{true≢false, and_right}
 use Rattle.plank_pic.specs.declared.parts.Part.{Part}
 use Rattle.plank_pic.specs.Lawful.{part_fits, ◌⇒◌}
 use Rattle.plank_lawful.specs.declared.families.NameRule.{NameRule}
@@ -23,7 +23,7 @@ use Rattle.plank_whole.specs.Cells.{is_unsaid}
 use Rattle.plank_whole.specs.Rows.{name_row, pointer_row, walk_row, chain_row, kept_row, row_of, is_idle}
 use Rattle.plank_whole.proofs.Meeting.{third_meets}
 
-off : (a b : Bool) → a ≡ false → (a ⇒ b) ≡ true
+pub off : (a b : Bool) → a ≡ false → (a ⇒ b) ≡ true
 off true b e = absurd (true≢false e)
 off false b e = refl
 
@@ -37,19 +37,14 @@ off_second true true c e = absurd (true≢false e)
 off_second true false c e = refl
 off_second false b c e = refl
 
-no_cell : (a b : Bool) → b ≡ false → (a && b) ≡ false
-no_cell true true e = absurd (true≢false e)
-no_cell true false e = refl
-no_cell false b e = refl
-
-row_code : (kind a b : ℕ) → (kind * 16 + a) * 32 + b ≡ (kind * 16 + a) * 32 + 0 + b
+pub row_code : (kind a b : ℕ) → (kind * 16 + a) * 32 + b ≡ (kind * 16 + a) * 32 + 0 + b
 row_code kind a b = omega arith
 
 module _ (w : Picture) (a b : ℕ) where
   -- the part of a cell that says no
   unsaid_part : (part : Part) (base : ℕ) → part_code part ≡ base + b → is_unsaid w.said base b ≡ true → shown w part ≡ false
   unsaid_part part base same none =
-      no_cell (part_fits (frame_of w) part) (slice_index_or w.said (part_code part) false)
+      and_right (part_fits (frame_of w) part) (slice_index_or w.said (part_code part) false)
       (ap (λ code. slice_index_or w.said code false) same ∙ no_of (slice_index_or w.said (base + b) false) none)
 
   same_off : is_unsaid w.said (part_code (Part.Same a 0)) b ≡ true → shown w (Part.Same a b) ≡ false

@@ -1,7 +1,7 @@
 -- A part that is put is the one that changes: each part of a frame has a cell of its own.
 use Rattle.std.proofs.Common.{◌≡◌, ℕ, ◌≤◌, ◌<◌, Bool, true, false, List, length, refl, sym, ◌∙◌, ap, subst, inl, inr, arith}
 use Rattle.std.specs.Prelude.{◌&&◌, slice_index_or, slice_set, replicate}
-use Rattle.std.proofs.lemmas.Bool.{and_from, cases_Bool, cases_lt}
+use Rattle.std.proofs.lemmas.Bool.{and_from, and_right, cases_Bool, cases_lt}
 use Rattle.std.proofs.lemmas.List.{get_or-set_same, get_or-set_other}
 use Rattle.std.proofs.lemmas.List.{get_or-replicate, get_or_past, length-replicate}
 use Rattle.plank_pic.specs.declared.parts.Part.{Part}
@@ -46,8 +46,4 @@ unset n i = elim (cases_lt i n) [
 ]
 
 pub unsaid : (F : Frame) (n : ℕ) (part : Part) → said_in F (replicate n false) part ≡ false
-unsaid F n part = and-no (part_fits F part) (slice_index_or (replicate n false) (part_code part) false) (unset n (part_code part))
-  where
-    and-no : (a b : Bool) → b ≡ false → (a && b) ≡ false
-    and-no true b e = e
-    and-no false b e = refl
+unsaid F n part = and_right (part_fits F part) (slice_index_or (replicate n false) (part_code part) false) (unset n (part_code part))

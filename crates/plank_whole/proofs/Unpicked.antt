@@ -6,7 +6,7 @@ use Rattle.std.proofs.lemmas.Bool.{true≢false, and_parts, and_from, ltb-true}
 use Rattle.plank_pic.specs.declared.parts.KeyName.{KeyName}
 use Rattle.plank_pic.specs.declared.parts.Part.{Part}
 use Rattle.plank_pic.specs.Pictures.{is_picked, is_picked_from, picks_from}
-use Rattle.plank_pic.specs.Lawful.{part_fits, slot_count, ◌⇒◌}
+use Rattle.plank_pic.specs.Lawful.{part_fits, slot_count}
 use Rattle.plank_pic.proofs.Below.{none_there}
 use Rattle.plank_lawful.specs.declared.families.WalkRule.{WalkRule}
 use Rattle.plank_lawful.specs.declared.families.ChainRule.{ChainRule}
@@ -22,10 +22,7 @@ use Rattle.plank_whole.specs.Wholes.{frame_of, shown}
 use Rattle.plank_whole.specs.Judging.{meets}
 use Rattle.plank_whole.specs.Cells.{is_unsaid, row_is_unsaid, are_unsaid, chain_picks_neither}
 use Rattle.plank_whole.proofs.Meeting.{third_meets}
-
-off : (a b : Bool) → a ≡ false → (a ⇒ b) ≡ true
-off true b e = absurd (true≢false e)
-off false b e = refl
+use Rattle.plank_whole.proofs.Idle.{off, row_code}
 
 not_both_off : (a b : Bool) → a ≡ false → not (a && b) ≡ true
 not_both_off true b e = absurd (true≢false e)
@@ -44,9 +41,6 @@ pub picks_code_small : (k : KeyName) (i s : ℕ) → i < 256 → s < 256 → par
 picks_code_small k i s hi hs = let few : key_digit k < 3 = key_digit_small k in omega arith
 
 -- ---- one chain
-
-row_code : (base i j : ℕ) → (base * 16 + i) * 32 + j ≡ (base * 16 + i) * 32 + 0 + j
-row_code base i j = omega arith
 
 module _ (w : Picture) (k : KeyName) (i s : ℕ) (none : row_is_unsaid w.said w.shape.names (part_code (Part.Picks k i 0 s)) ≡ true) where
   cell_unsaid : (j : ℕ) → j < w.shape.names → slice_index_or w.said (part_code (Part.Picks k i j s)) false ≡ false
