@@ -1,5 +1,7 @@
 //! Structures after published ones, each judged whole. They take longer than all other tests, so each stands alone.
 use crate::calls::reports;
+use crate::structures::SWEEP;
+use crate::workers::by_two;
 
 /// A search tree whose deleted nodes stay, with a flag.
 const TREE: &[u8] =
@@ -39,4 +41,22 @@ fn a_list_after_the_lazy_list_is_accepted(rt: HostRuntime) {
 fn a_list_after_michaels_is_accepted(rt: HostRuntime) {
     let first = b"structure michael\neffects 6\n";
     assert!(rt; reports(&rt, rt.alloc(), MICHAEL, first, b"\naccepted\n") == Ok(true));
+}
+
+#[test]
+fn a_list_after_michaels_is_accepted_by_two_workers_at_once(rt: HostRuntime) {
+    let (report, met) = by_two(&rt, rt.alloc(), MICHAEL).expect(&rt, "memory");
+    assert!(rt; met);
+    assert!(rt;
+        report
+            .as_slice()
+            .starts_with(b"structure michael\neffects 6\n")
+    );
+    assert!(rt; report.as_slice().ends_with(b"\naccepted\n"));
+}
+
+#[test]
+fn a_list_after_michaels_with_an_upkeep_is_accepted(rt: HostRuntime) {
+    let first = b"structure michael\neffects 7\n";
+    assert!(rt; reports(&rt, rt.alloc(), SWEEP, first, b"\naccepted\n") == Ok(true));
 }
