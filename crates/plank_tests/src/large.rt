@@ -1,4 +1,5 @@
 //! The texts of `large`, and what is told of them.
+use crate::calls::writes;
 use crate::programs::program_of;
 use plank_judge::Verdict;
 use plank_large::{large_text, summary};
@@ -41,4 +42,10 @@ fn large_texts_are_in_order_and_each_find_has_ten_locations(rt: HostRuntime) {
         assert!(rt; told.as_slice() == wanted);
         methods = if methods < 16 { methods + 1 } else { 2 };
     }
+}
+
+#[test]
+fn a_large_text_is_judged(rt: HostRuntime) {
+    let output = b"large 8\nmethods 8 locations 96 effects 6\naccepted\n";
+    assert!(rt; writes(&rt, rt.alloc(), &["large", "8"], b"", output) == Ok(true));
 }

@@ -14,6 +14,8 @@ mod marks;
 #[cfg(test)]
 mod programs;
 #[cfg(test)]
+mod published;
+#[cfg(test)]
 mod reading;
 #[cfg(test)]
 mod structures;

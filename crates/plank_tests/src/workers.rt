@@ -99,14 +99,24 @@ impl Gate for Held {
     }
 }
 
-#[test]
-fn two_workers_run_at_once(rt: HostRuntime) {
+/// What two workers write of a text, where the first waits for the second at its first turn; and whether it came.
+pub(crate) fn by_two<R: Threads + Sync>(
+    rt: &R,
+    alloc: Global,
+    text: &[u8],
+) -> Result<(Vec<u8>, bool), OutOfMemory> {
     let gate = Held {
         second: AtomicU64::new(0),
         met: AtomicU64::new(0),
     };
     let words = &["verify", "--workers", "2"];
-    let (_, taken) = called_by(&rt, rt.alloc(), words, LAMP, &PLAIN, &gate).expect(&rt, "memory");
-    assert_eq!(rt; gate.met.load(Ordering::SeqCst), 1);
-    assert!(rt; taken.as_slice() == LAMP_REPORT);
+    let (_, taken) = called_by(rt, alloc, words, text, &PLAIN, &gate)?;
+    Ok((taken, gate.met.load(Ordering::SeqCst) == 1))
+}
+
+#[test]
+fn two_workers_run_at_once(rt: HostRuntime) {
+    let (report, met) = by_two(&rt, rt.alloc(), LAMP).expect(&rt, "memory");
+    assert!(rt; met);
+    assert!(rt; report.as_slice() == LAMP_REPORT);
 }
