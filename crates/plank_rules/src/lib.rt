@@ -7,6 +7,7 @@ mod block_names;
 mod blocks;
 mod broken;
 mod conditions;
+mod findings;
 mod first;
 mod flow;
 mod headers;
@@ -20,8 +21,9 @@ mod occurrences;
 mod scopes;
 mod statements;
 mod text_rules;
+mod typed;
 
 pub use broken::Broken;
 pub use laws::{first_is_least, looks_up_what_is_declared};
 pub use names::{Declared, Names};
-pub use text_rules::{declared_by, first_broken};
+pub use typed::{Typed, Untyped, checked};

@@ -1,7 +1,7 @@
 -- The parts of blocks name parts that are there, and each block may stand in its method.
 use Rattle.std.proofs.Common.{◌≡◌, ℕ, Bool, true, false, not, ◌&&◌, ◌||◌, List, [], ◌∷◌, length, map, filter_map, Option, Some, None, refl, ◌∙◌, ap, if◌then◌else◌}
-use Rattle.std.specs.Prelude.{nat_lt, cond}
-use Rattle.std.specs.List.{list_all, list_any, position_or_len, cons_option}
+use Rattle.std.specs.Prelude.{nat_lt}
+use Rattle.std.specs.List.{list_all, list_any, cons_option}
 use Rattle.std.specs.Option.{option_map_or, option_map, option_to_list}
 use Rattle.std.specs.Cmp.{first_so, second_so}
 use Rattle.plank_ast.specs.declared.names.Reference.{Reference as ReferenceTree}
@@ -30,7 +30,7 @@ use Rattle.plank_prog.specs.declared.methods.Action.{Action}
 use Rattle.plank_prog.specs.Names.{all_pairs}
 use Rattle.plank_prog.specs.Blocks.{same_reference, reference_fits, flag_fits, key_fits, pointer_fits, is_field, test_fits, bind_fits, write_fits, block_parts_fit, binds_stand_alone, writes_agree, tests_lock, writes_lock, locks_stand_alone, is_lock_statement, is_lawful_block}
 use Rattle.plank_prog.specs.Methods.{is_lawful_action}
-use Rattle.plank_rules.specs.Declarations.{same_name, number_of}
+use Rattle.plank_rules.specs.Declarations.{number_of}
 use Rattle.plank_rules.specs.declared.names.Declared.{Declared}
 use Rattle.plank_type.specs.declared.operands.Meaning.{Meaning}
 use Rattle.plank_type.specs.Conditions.{is_equality}
@@ -38,6 +38,7 @@ use Rattle.plank_type.specs.Operands.{reference_of, with_of, field_meaning, alon
 use Rattle.plank_type.specs.Statements.{idle_block, read_block, assignment, atomic_block, tests_block, take_lock, free_lock}
 use Rattle.plank_type.proofs.Tests.{and_so, both_true, not_true, all_map, all_so}
 use Rattle.plank_type.proofs.Tests.{or_left, or_right}
+use Rattle.plank_type.proofs.NamesOnce.{number_so}
 use Rattle.plank_type.proofs.KnownNames.{same_self}
 use Rattle.plank_type.proofs.BlockNames.{LawfulNames, ReadsLawfully}
 
@@ -47,16 +48,7 @@ pub record Fitting (h : Header) (names : Declared) : Type 0 where
   pub pointers : length h.pointers ≡ length names.pointers
   pub has_lock : h.has_lock ≡ names.has_lock
 
--- ---- numbers of names
-
-given_so : {A : Type 0} (test : A → Bool) (f : ℕ → A) (d : A) (count : ℕ) (below : Bool) (at : ℕ) → nat_lt at count ≡ below → ((i : ℕ) → nat_lt i count ≡ true → test (f i) ≡ true) → test d ≡ true → test (option_map_or f (cond below (Some at) None) d) ≡ true
-given_so test f d count true at h some none = some at h
-given_so test f d count false at h some none = none
-
--- what holds of each number below the number of names, and of what stands for no number
-number_so : {A : Type 0} (test : A → Bool) (f : ℕ → A) (d : A) (name : List ℕ) (names : List (List ℕ)) → ((i : ℕ) → nat_lt i (length names) ≡ true → test (f i) ≡ true) → test d ≡ true → test (option_map_or f (number_of name names) d) ≡ true
-number_so test f d name names some none =
-    given_so test f d (length names) (nat_lt (position_or_len (same_name name) names) (length names)) (position_or_len (same_name name) names) refl some none
+-- ---- what is given
 
 mapped_or : {A : Type 0} (test : A → Bool) (f : ℕ → A) (o : Option ℕ) → option_map_or test (option_map f o) true ≡ option_map_or (λ i. test (f i)) o true
 mapped_or test f None = refl

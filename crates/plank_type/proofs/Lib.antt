@@ -5,11 +5,13 @@ pub mod NoRoot
 pub mod UnreadNames
 pub mod KeptPairs
 pub mod KnownNames
+pub mod KnownMeanings
 pub mod BoundNames
 pub mod WrittenNames
 pub mod BlockNames
 pub mod WithinLimits
-pub mod Constants
+pub mod PlainConditions
+pub mod OperandsFit
 pub mod ConditionsFit
 pub mod Rules
 pub mod AsWritten

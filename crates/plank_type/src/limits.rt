@@ -1,9 +1,7 @@
-ghost use Rattle.std.specs.Prelude.{◌≡◌, ◌≤◌, length, sum_by};
+ghost use Rattle.std.specs.Prelude.{◌≡◌, ◌≤◌, length};
 ghost use Rattle.plank_base.specs.declared.limits.TheConstants.{FLAGS_LIMIT, POINTERS_LIMIT};
 ghost use Rattle.plank_prog.specs.Methods.{site_count};
-ghost use Rattle.plank_rules.specs.Declarations.{declared_variables};
 ghost use Rattle.plank_type.specs.Limits.{told, past_limit, first_given, variables_limit, variables_excess, header_excess, methods_excess, text_size, text_excess, sites_excess, facts_excess, method_facts_excess, program_excess};
-ghost use Rattle.plank_type.specs.Methods.{method_size};
 
 use crate::sizes::statements_size;
 use plank_ast::{Method as MethodTree, Text};

@@ -1,4 +1,4 @@
-ghost use Rattle.std.specs.Prelude.{◌≡◌, ◌≤◌, ◌∷◌, All, length, map, IfOk};
+ghost use Rattle.std.specs.Prelude.{◌≡◌, ◌≤◌, All, length, map, IfOk};
 ghost use Rattle.plank_rules.specs.Declarations.{variable_line, variables_of};
 ghost use Rattle.plank_base.specs.declared.limits.TheConstants.{VARIABLES_LIMIT, LOCATIONS_LIMIT};
 ghost use Rattle.plank_type.specs.Numbers.{names_of};

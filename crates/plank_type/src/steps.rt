@@ -1,6 +1,4 @@
-ghost use Rattle.std.specs.Prelude.{◌≡◌, ◌≤◌, ◌∷◌, length, map, IfOk};
-ghost use Rattle.std.specs.Option.{option_to_list};
-ghost use Rattle.plank_base.specs.declared.limits.TheConstants.{VARIABLES_LIMIT};
+ghost use Rattle.std.specs.Prelude.{◌≡◌, ◌∷◌, map, IfOk};
 ghost use Rattle.plank_type.specs.Operands.{test_of};
 ghost use Rattle.plank_prog.specs.declared.methods.Action.TheVariants as action;
 ghost use Rattle.plank_type.specs.Statements.{assigned, idle_block, read_block, assignment, atomic_block, tests_block, lock_block, take_lock, free_lock};
