@@ -25,5 +25,7 @@ mod typed;
 
 pub use broken::Broken;
 pub use laws::{first_is_least, looks_up_what_is_declared};
+pub use meanings::{FieldMeaning, Meaning, NodeMeaning};
 pub use names::{Declared, Names};
+pub use scopes::{Scope, Setting};
 pub use typed::{Typed, Untyped, checked};

@@ -12,7 +12,7 @@ use plank_base::{Place, TypeKind};
 
 /// What a name means where a node may stand.
 #[derive(Clone, Copy, Debug, PartialEq, Eq)]
-pub(crate) enum NodeMeaning {
+pub enum NodeMeaning {
     Unknown,
     Key,
     Node,
@@ -21,7 +21,7 @@ pub(crate) enum NodeMeaning {
 
 /// What a name means after a dot.
 #[derive(Clone, Copy, Debug, PartialEq, Eq)]
-pub(crate) enum FieldMeaning {
+pub enum FieldMeaning {
     Unknown,
     Key,
     Flag,
@@ -30,7 +30,7 @@ pub(crate) enum FieldMeaning {
 
 /// What an operand means.
 #[derive(Clone, Copy, Debug, PartialEq, Eq)]
-pub(crate) enum Meaning {
+pub enum Meaning {
     /// A name in it is unknown.
     Unknown,
     /// It may stand nowhere.

@@ -1,6 +1,6 @@
 -- The conditions of a header that break no rule of typing ask for no more than is given where they stand, by induction
 -- over conditions.
-use Rattle.std.proofs.Common.{◌≡◌, true, List, [], ◌∷◌, map, refl, sym, ◌∙◌, ap, subst}
+use Rattle.std.proofs.Common.{◌≡◌, true, false, List, [], ◌∷◌, map, refl, sym, ◌∙◌, ap, subst}
 use Rattle.std.specs.List.{flat_map}
 use Rattle.plank_ast.specs.declared.conditions.Condition.{Condition as ConditionTree}
 use Rattle.plank_ast.specs.declared.conditions.Conjunction.{Conjunction}

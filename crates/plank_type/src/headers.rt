@@ -3,6 +3,7 @@ ghost use Rattle.plank_type.specs.Numbers.{names_of};
 ghost use Rattle.plank_type.specs.Headers.{order_of, edge_of, pointer_of, keep_of, freeze_of, header_of};
 
 use crate::conditions::condition_of;
+use crate::limits::Limited;
 use crate::names::{Numbers, copied, flag_names};
 use crate::start_nodes::{root_of, start_nodes_of};
 use plank_ast::{ConditionLine, Direction, NamedCondition, PointerLine, Text};
@@ -106,12 +107,15 @@ fn freeze_of(
     }
 }
 
-/// The header of a text whose names are few enough, and are these.
-pub(crate) fn header_of(
-    alloc: Global,
-    names: &Numbers<'_>,
-    text: &Text,
-) -> Result<Header, OutOfMemory>
+/// The header of a well typed text within the limits.
+pub(crate) fn header_of(alloc: Global, limited: Limited<'_>) -> Result<Header, OutOfMemory>
+    ensures { IfOk result (λ header. header ≡ header_of limited.entry.typed.now.text.now) }
+{
+    let numbers = Numbers::new(limited);
+    header_with(alloc, &numbers, limited.typed.text)
+}
+
+fn header_with(alloc: Global, names: &Numbers<'_>, text: &Text) -> Result<Header, OutOfMemory>
     requires names { names.now ≡ names_of text.now }
     ensures { IfOk result (λ header. header ≡ header_of text.now) }
 {

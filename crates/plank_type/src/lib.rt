@@ -8,6 +8,7 @@ mod faults;
 mod headers;
 mod laws;
 mod limits;
+mod lowering;
 mod methods;
 mod names;
 mod operands;
