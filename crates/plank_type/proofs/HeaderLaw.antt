@@ -118,15 +118,18 @@ unlisted_test : (test : Bool) (b : Broken) → when test b ≡ [] → test ≡ f
 unlisted_test false b h = refl
 unlisted_test true b h = absurd (cc)
 
-root_below : (nodes : List (List ℕ)) (structure : Place) (roots : List RootLine) → roots_rules (distinct nodes) structure roots ≡ [] → root_of nodes roots < length nodes
-root_below nodes structure [] h = absurd (cc)
-root_below nodes structure (r ∷ rs) h =
-    number_below (same_name r.name.label) nodes
-    (among_declared nodes r.name.label
+-- the first root is a start node
+pub root_known : (nodes : List (List ℕ)) (structure : Place) (r : RootLine) (rs : List RootLine) → roots_rules (distinct nodes) structure (r ∷ rs) ≡ [] → is_among nodes r.name.label ≡ true
+root_known nodes structure r rs h =
+    among_declared nodes r.name.label
     (true_unless (is_among (distinct nodes) r.name.label) (λ k.
     sym (ap not k) ∙ unlisted_test (not (is_among (distinct nodes) r.name.label)) (unknown r.name.place)
     (left_none (root_rules (distinct nodes) r) (flat_map (root_rules (distinct nodes)) rs)
-    (right_none (one_root structure (r ∷ rs)) (flat_map (root_rules (distinct nodes)) (r ∷ rs)) h)))))
+    (right_none (one_root structure (r ∷ rs)) (flat_map (root_rules (distinct nodes)) (r ∷ rs)) h))))
+
+root_below : (nodes : List (List ℕ)) (structure : Place) (roots : List RootLine) → roots_rules (distinct nodes) structure roots ≡ [] → root_of nodes roots < length nodes
+root_below nodes structure [] h = absurd (cc)
+root_below nodes structure (r ∷ rs) h = number_below (same_name r.name.label) nodes (root_known nodes structure r rs h)
 
 -- ---- start nodes
 
@@ -263,7 +266,7 @@ module _ (t : Text) (rules : broken_rules t ≡ []) (within : text_excess t ≡ 
       let here = edge_rules (names_of t) (header_scope Setting.Edge) line in
       let rest = flat_map (edge_rules (names_of t) (header_scope Setting.Edge)) lines in
       either_fits (same_name pointer line.name.label) (walk_scope (header_of t)) (Some (condition_of (names_of t) line.condition)) (edge_of (names_of t) lines pointer)
-      (condition_of_fits (names_of t) Setting.Edge line.condition
+      ((condition_of_fits (names_of t) Setting.Edge refl line.condition).fits
       (right_none (pointer_rules (label_meaning (names_of t) line.name.label) line.name.place) (condition_rules (names_of t) (header_scope Setting.Edge) line.condition)
       (left_none here rest none)))
       (edge_fits lines (right_none here rest none) pointer)
@@ -275,11 +278,11 @@ module _ (t : Text) (rules : broken_rules t ≡ []) (within : text_excess t ≡ 
       let rest = flat_map (keep_rules (names_of t) (header_scope Setting.Keep)) lines in
       and_so (condition_fits (scope_at (names_of t) Setting.Keep) (condition_of (names_of t) line.condition))
       (list_all (λ k. condition_fits (scope_at (names_of t) Setting.Keep) (condition_of (names_of t) k.condition)) lines)
-      (condition_of_fits (names_of t) Setting.Keep line.condition (left_none here rest none)) (keep_fits lines (right_none here rest none))
+      ((condition_of_fits (names_of t) Setting.Keep refl line.condition).fits (left_none here rest none)) (keep_fits lines (right_none here rest none))
 
   freeze_fits : (line : Option ConditionLine) → optional_freeze_rules (names_of t) line ≡ [] → optional_fits (freeze_scope (header_of t)) (freeze_of (names_of t) line) ≡ true
   freeze_fits None none = refl
-  freeze_fits (Some line) none = condition_of_fits (names_of t) Setting.Freeze line.condition none
+  freeze_fits (Some line) none = (condition_of_fits (names_of t) Setting.Freeze refl line.condition).fits none
 
   same_keep_scope : keep_scope (header_of t) ≡ scope_at (names_of t) Setting.Keep
   same_keep_scope =
@@ -292,7 +295,7 @@ module _ (t : Text) (rules : broken_rules t ≡ []) (within : text_excess t ≡ 
       (all_map (λ p. optional_fits (walk_scope (header_of t)) p.edge) (pointer_of (names_of t) t.edges) t.pointers
       ∙ all_so (λ line. optional_fits (walk_scope (header_of t)) (edge_of (names_of t) t.edges line.name.label))
       (λ line. edge_fits t.edges (subst (λ (names : Declared). flat_map (edge_rules names (header_scope Setting.Edge)) t.edges ≡ []) as_written (of_edges t rules)) line.name.label) t.pointers)
-      (condition_of_fits (names_of t) Setting.Holds t.holds.condition (subst (λ (names : Declared). holds_rules names t.holds ≡ []) as_written (of_holds t rules))))
+      ((condition_of_fits (names_of t) Setting.Holds refl t.holds.condition).fits (subst (λ (names : Declared). holds_rules names t.holds ≡ []) as_written (of_holds t rules))))
       (all_map (λ k. condition_fits (keep_scope (header_of t)) k.condition) (keep_of (names_of t)) t.keeps
       ∙ ap (λ s. list_all (λ line. condition_fits s (condition_of (names_of t) line.condition)) t.keeps) same_keep_scope
       ∙ keep_fits t.keeps (subst (λ (names : Declared). flat_map (keep_rules names (header_scope Setting.Keep)) t.keeps ≡ []) as_written (of_keep_conditions t rules))))

@@ -13,22 +13,20 @@ use Rattle.plank_prog.specs.declared.conditions.Condition.{Condition}
 use Rattle.plank_prog.specs.declared.conditions.KeyTerm.{KeyTerm}
 use Rattle.plank_prog.specs.declared.scopes.Scope.{Scope}
 use Rattle.plank_prog.specs.Scopes.{condition_fits, term_fits}
-use Rattle.plank_rules.specs.declared.broken.Broken.{Broken}
 use Rattle.plank_rules.specs.declared.scopes.Setting.{Setting}
 use Rattle.plank_rules.specs.declared.names.Declared.{Declared}
 use Rattle.plank_rules.specs.declared.meanings.NodeMeaning.{NodeMeaning}
 use Rattle.plank_rules.specs.declared.meanings.FieldMeaning.{FieldMeaning}
 use Rattle.plank_rules.specs.Declarations.{is_among, number_of}
-use Rattle.plank_rules.specs.Faults.{wrong_kind}
 use Rattle.plank_rules.specs.Occurrences.{reference_place}
-use Rattle.plank_rules.specs.Meanings.{name_meaning, reference_meaning, label_meaning, alone, dotted, operand_meaning, operand_place, unknown_node, unknown_label, unknown_name, unknown_operand, misplaced}
-use Rattle.plank_rules.specs.Atoms.{is_unknown, is_unknown_name, operand_rules, compared, no_visit, in_rules, atom_end_rules}
+use Rattle.plank_rules.specs.Meanings.{is_keep, reference_meaning, label_meaning, alone, dotted, operand_meaning, operand_place, unknown_node, unknown_label, misplaced}
+use Rattle.plank_rules.specs.Atoms.{operand_rules, compared, atom_end_rules}
 use Rattle.plank_rules.specs.Headers.{header_scope}
 use Rattle.plank_type.specs.declared.conditions.Asked.{Asked}
 use Rattle.plank_type.specs.Conditions.{relation_of, is_equality, asked_field, asked_of, condition_compared, condition_alone, condition_ended}
-use Rattle.plank_type.proofs.Tests.{and_so, or_neither, left_none, right_none}
+use Rattle.plank_type.proofs.Tests.{and_so, left_none, right_none}
 use Rattle.plank_type.proofs.NamesOnce.{number_so, numbered_among, numbered_below, not_numbered}
-use Rattle.plank_type.proofs.KnownMeanings.{operand_known, named_known}
+use Rattle.plank_type.proofs.KnownMeanings.{visits_in_keeps}
 use Rattle.plank_type.proofs.PlainConditions.{constant_fits, flag_fits, flags_fit, pointer_fits, keys_fit, visited_fits}
 
 -- what a condition may ask for where it stands
@@ -126,35 +124,14 @@ module _ (names : Declared) where
 
   -- ---- visits stand in keeps alone
 
-  visited_given : (setting : Setting) (o : Operand) (p : Place) (node : NodeMeaning) → no_visit names (header_scope setting) o p node ≡ [] → (scope_at names setting).visited ≡ true
-  visited_given Setting.Keep o p node h = refl
-  visited_given Setting.Edge o p node h =
-      let k : wrong_kind p ∷ [] ≡ [] = right_none (misplaced (operand_meaning names (header_scope Setting.Edge) o) (operand_place o)) (wrong_kind p ∷ []) h in absurd (cc)
-  visited_given Setting.Holds o p node h =
-      let k : wrong_kind p ∷ [] ≡ [] = right_none (misplaced (operand_meaning names (header_scope Setting.Holds) o) (operand_place o)) (wrong_kind p ∷ []) h in absurd (cc)
-  visited_given Setting.Freeze o p node h =
-      let k : wrong_kind p ∷ [] ≡ [] = right_none (misplaced (operand_meaning names (header_scope Setting.Freeze) o) (operand_place o)) (wrong_kind p ∷ []) h in absurd (cc)
-  visited_given Setting.Method o p node h =
-      let k : wrong_kind p ∷ [] ≡ [] = right_none (misplaced (operand_meaning names (header_scope Setting.Method) o) (operand_place o)) (wrong_kind p ∷ []) h in absurd (cc)
+  visited_given : (setting : Setting) → is_keep (header_scope setting).setting ≡ true → (scope_at names setting).visited ≡ true
+  visited_given Setting.Keep h = refl
+  visited_given Setting.Edge h = h
+  visited_given Setting.Holds h = h
+  visited_given Setting.Freeze h = h
+  visited_given Setting.Method h = h
 
   module _ (setting : Setting) where
-    unless_unknown : (unknown : Bool) (o : Operand) (p : Place) (node : NodeMeaning) → unknown ≡ false → (if unknown then [] else no_visit names (header_scope setting) o p node) ≡ [] → (scope_at names setting).visited ≡ true
-    unless_unknown true o p node e h = absurd (cc)
-    unless_unknown false o p node e h = visited_given setting o p node h
-
-    in_fits : (o : Operand) (p : Place) (node : Name) → in_rules names (header_scope setting) o p node ≡ [] → condition_fits (scope_at names setting) Condition.Visited ≡ true
-    in_fits o p node h =
-        let operand = unknown_operand names (header_scope setting) o in
-        let name = unknown_name (header_scope setting) node in
-        let unknown = is_unknown (operand_meaning names (header_scope setting) o) || is_unknown_name (name_meaning (header_scope setting) node.label) in
-        let visit : List Broken = if unknown then [] else no_visit names (header_scope setting) o p (name_meaning (header_scope setting) node.label) in
-        let known = left_none (operand ++ name) visit h in
-        visited_fits (scope_at names setting)
-        ∙ unless_unknown unknown o p (name_meaning (header_scope setting) node.label)
-        (or_neither (is_unknown (operand_meaning names (header_scope setting) o)) (is_unknown_name (name_meaning (header_scope setting) node.label))
-        (operand_known names (header_scope setting) o (left_none operand name known)) (named_known (header_scope setting) node (right_none operand name known)))
-        (right_none (operand ++ name) visit h)
-
     -- ---- operands
 
     known_pointer : (f : Name) (flag pointer : Bool) → is_among names.flags f.label ≡ flag → flag ≡ false → is_among names.pointers f.label ≡ pointer → pointer ≡ true → label_meaning names f.label ≡ FieldMeaning.Pointer
@@ -207,4 +184,5 @@ module _ (names : Declared) where
         compared_fits (scope_at names setting) (asked_of names o) comparison (asked_of names second)
         (operand_fits o (left_none (operand_rules names sc o) (operand_rules names sc second) both))
         (operand_fits second (right_none (operand_rules names sc o) (operand_rules names sc second) both))
-    ended_fits o (AtomEnd.In p node) h = in_fits o p node h
+    ended_fits o (AtomEnd.In p node) h =
+        visited_fits (scope_at names setting) ∙ visited_given setting (visits_in_keeps names (header_scope setting) o p node h)

@@ -99,6 +99,9 @@ module _ (t : Text) (m : Method) (h : method_rules (declared_by t) m ≡ []) whe
       left_none (kind_rules (kind_name m.name m.kind) ++ local_repeats m) (statements_rules (declared_by t) m)
       (left_none (kind_rules (kind_name m.name m.kind) ++ local_repeats m ++ statements_rules (declared_by t) m) (loop_rules m) before_returns)
 
+  pub of_kind : kind_rules (kind_name m.name m.kind) ≡ []
+  of_kind = left_none (kind_rules (kind_name m.name m.kind)) (local_repeats m) before_statements
+
   pub of_statements : flat_map (statement_rules (declared_by t) (method_scope m)) m.statements ≡ []
   unfolding statements_rules
   of_statements =
