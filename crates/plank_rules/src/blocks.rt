@@ -16,7 +16,7 @@ use crate::occurrences::{
     Occurrence, add_others_than_first, add_repeats, add_reuses, push, reference_place,
 };
 use crate::scopes::Scope;
-use plank_ast::{Bind, Reference, TestLine, With, Write, Written};
+use plank_ast::{Bind, Block, Reference, TestLine, With, Write, Written};
 use plank_base::{OutOfMemory, Place, TypeKind};
 use std::alloc::Global;
 
@@ -219,16 +219,12 @@ fn add_block_reuses(
     found: &mut Findings,
     alloc: Global,
     scope: &Scope<'_>,
-    with: &Option<With>,
-    tests: &[TestLine],
-    binds: &[Bind],
-    writes: &[Write],
+    block: &Block,
 ) -> Result<(), OutOfMemory>
-    ensures { OnOk result (Adds found.old found.new
-        (spec.block_reuses scope.now with.now tests.now binds.now writes.now)) }
+    ensures { OnOk result (Adds found.old found.new (spec.block_reuses scope.now block.now)) }
 {
-    let bound = bound_by(alloc, scope, binds)?;
-    let names = block_names(alloc, with, tests, binds, writes)?;
+    let bound = bound_by(alloc, scope, block.binds.as_slice())?;
+    let names = block_names(alloc, block)?;
     add_reuses(found, alloc, &bound, &names)
 }
 
@@ -237,17 +233,14 @@ pub(crate) fn add_block_rules(
     alloc: Global,
     header: &Declared<'_>,
     scope: &Scope<'_>,
-    with: &Option<With>,
-    tests: &[TestLine],
-    binds: &[Bind],
-    writes: &[Write],
+    block: &Block,
 ) -> Result<(), OutOfMemory>
     ensures { OnOk result (Adds found.old found.new
-        (spec.block_rules header.now scope.now with.now tests.now binds.now writes.now)) }
+        (spec.block_rules header.now scope.now block.now)) }
 {
-    add_optional_with(found, alloc, scope, with)?;
-    add_test_lines(found, header, scope, tests);
-    add_binds(found, header, scope, binds);
-    add_writes(found, alloc, header, scope, writes)?;
-    add_block_reuses(found, alloc, scope, with, tests, binds, writes)
+    add_optional_with(found, alloc, scope, &block.with)?;
+    add_test_lines(found, header, scope, block.tests.as_slice());
+    add_binds(found, header, scope, block.binds.as_slice());
+    add_writes(found, alloc, header, scope, block.writes.as_slice())?;
+    add_block_reuses(found, alloc, scope, block)
 }

@@ -127,23 +127,11 @@ pub(crate) fn add_statement_rules(
             add_assign_rules(found, alloc, header, scope, variable, value)
         }
         Statement::Atomic {
-            with,
-            tests,
-            binds,
-            writes,
+            block,
             otherwise,
             ..
         } => {
-            add_block_rules(
-                found,
-                alloc,
-                header,
-                scope,
-                with,
-                tests.as_slice(),
-                binds.as_slice(),
-                writes.as_slice(),
-            )?;
+            add_block_rules(found, alloc, header, scope, block)?;
             add_else_rules(found, alloc, header, scope, otherwise)
         }
         Statement::Lock { place, node } | Statement::Unlock { place, node } => {

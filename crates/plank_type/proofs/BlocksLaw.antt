@@ -14,6 +14,7 @@ use Rattle.plank_ast.specs.declared.statements.Test.{Test as TestTree}
 use Rattle.plank_ast.specs.declared.statements.TestLine.{TestLine}
 use Rattle.plank_ast.specs.declared.statements.Tests.{Tests}
 use Rattle.plank_ast.specs.declared.statements.Bind.{Bind as BindTree}
+use Rattle.plank_ast.specs.declared.statements.Block.{Block as BlockTree}
 use Rattle.plank_ast.specs.declared.statements.Written.{Written}
 use Rattle.plank_ast.specs.declared.statements.Write.{Write as WriteTree}
 use Rattle.plank_ast.specs.declared.statements.Assigned.{Assigned}
@@ -313,18 +314,18 @@ module _ (h : Header) (names : Declared) (fitting : Fitting h names) (variables 
       (not_true (writes_lock w) (first_so (not (writes_lock w)) (list_all (λ y. not (writes_lock y)) ws) x))
       (none_of ws (second_so (not (writes_lock w)) (list_all (λ y. not (writes_lock y)) ws) x))
 
-  pub atomic_so : (n : ℕ) (w : Option With) (tests : List TestLine) (binds : List BindTree) (writes : List WriteTree) (met other : ℕ) → nat_lt met n ≡ true → nat_lt other n ≡ true → LawfulNames (atomic_block names variables w tests binds writes met other) → is_lawful_block h v n (atomic_block names variables w tests binds writes met other) ≡ true
-  atomic_so n w tests binds writes met other x y named =
-      let b : Block = atomic_block names variables w tests binds writes met other in
+  pub atomic_so : (n : ℕ) (tree : BlockTree) (met other : ℕ) → nat_lt met n ≡ true → nat_lt other n ≡ true → LawfulNames (atomic_block names variables tree met other) → is_lawful_block h v n (atomic_block names variables tree met other) ≡ true
+  atomic_so n tree met other x y named =
+      let b : Block = atomic_block names variables tree met other in
       block_so n b
-      (parts_so b (with_fit w)
-      (all_map (test_fits h v) (λ line. test_of names variables line.test) tests ∙ all_so (λ line. test_fits h v (test_of names variables line.test)) (λ line. test_fit line.test) tests)
-      (kept_so (bind_fits h v) (bind_of names variables) (λ d. read_fit d.variable.label d.node d.field.label) binds)
-      (kept_so (write_fits h v) (write_of names variables) write_fit writes))
+      (parts_so b (with_fit tree.with)
+      (all_map (test_fits h v) (λ line. test_of names variables line.test) tree.tests ∙ all_so (λ line. test_fits h v (test_of names variables line.test)) (λ line. test_fit line.test) tree.tests)
+      (kept_so (bind_fits h v) (bind_of names variables) (λ d. read_fit d.variable.label d.node d.field.label) tree.binds)
+      (kept_so (write_fits h v) (write_of names variables) write_fit tree.writes))
       x y named
-      (no_locks_so b (no_locks (λ line. line.test) tests)
-      (none_of (writes_of names variables writes)
-      (kept_so (λ u. not (writes_lock u)) (write_of names variables) (λ u. written_no_lock (reference_of variables u.node) u.field.label u.value) writes)))
+      (no_locks_so b (no_locks (λ line. line.test) tree.tests)
+      (none_of (writes_of names variables tree.writes)
+      (kept_so (λ u. not (writes_lock u)) (write_of names variables) (λ u. written_no_lock (reference_of variables u.node) u.field.label u.value) tree.writes)))
 
   -- ---- assignments
 

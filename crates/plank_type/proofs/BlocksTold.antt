@@ -15,6 +15,7 @@ use Rattle.plank_ast.specs.declared.statements.Test.{Test as TestTree}
 use Rattle.plank_ast.specs.declared.statements.TestLine.{TestLine}
 use Rattle.plank_ast.specs.declared.statements.Tests.{Tests}
 use Rattle.plank_ast.specs.declared.statements.Bind.{Bind as BindTree}
+use Rattle.plank_ast.specs.declared.statements.Block.{Block as BlockTree}
 use Rattle.plank_ast.specs.declared.statements.Written.{Written}
 use Rattle.plank_ast.specs.declared.statements.Write.{Write as WriteTree}
 use Rattle.plank_ast.specs.declared.statements.Assigned.{Assigned}
@@ -269,25 +270,25 @@ module _ (m : Method) (names : Declared) where
       all_told (node_rules scope) (node_is_told vs) (node_known m) (with_list w)
       (left_none (flat_map (node_rules scope) (with_list w)) (repeats (map reference_occurrence (with_list w))) h)
 
-  pub block_told : (w : Option With) (tests : List TestLine) (binds : List BindTree) (writes : List WriteTree) → block_rules names scope w tests binds writes ≡ [] → block_is_told names (locals_of m) w tests binds writes ≡ true
-  block_told w tests binds writes h =
-      let of_with = optional_with_rules scope w in
-      let of_tests = flat_map (test_line_rules names scope) tests in
-      let of_binds = flat_map (bind_rules names scope) binds in
-      let of_writes = writes_rules names scope writes in
-      let each = flat_map (write_rules names scope) writes in
-      let four = left_none (of_with ++ of_tests ++ of_binds ++ of_writes) (block_reuses scope w tests binds writes) h in
+  pub block_told : (tree : BlockTree) → block_rules names scope tree ≡ [] → block_is_told names (locals_of m) tree ≡ true
+  block_told tree h =
+      let of_with = optional_with_rules scope tree.with in
+      let of_tests = flat_map (test_line_rules names scope) tree.tests in
+      let of_binds = flat_map (bind_rules names scope) tree.binds in
+      let of_writes = writes_rules names scope tree.writes in
+      let each = flat_map (write_rules names scope) tree.writes in
+      let four = left_none (of_with ++ of_tests ++ of_binds ++ of_writes) (block_reuses scope tree) h in
       let three = left_none (of_with ++ of_tests ++ of_binds) of_writes four in
       let two = left_none (of_with ++ of_tests) of_binds three in
-      and_so _ (list_all (write_is_told names vs) writes)
-      (and_so _ (list_all (bind_is_told names vs) binds)
-      (and_so (with_is_told vs w) (list_all (λ line. test_is_told names (locals_of m) line.test) tests)
-      (with_told w (left_none of_with of_tests two))
-      (all_told (test_line_rules names scope) (λ line. test_is_told names (locals_of m) line.test) (λ line. test_told line.test) tests (right_none of_with of_tests two)))
-      (all_told (bind_rules names scope) (bind_is_told names vs) bind_told binds (right_none (of_with ++ of_tests) of_binds three)))
-      (all_told (write_rules names scope) (write_is_told names vs) write_told writes
-      (left_none each (others_than_first (flat_map (write_heads names scope) writes))
-      (left_none (each ++ others_than_first (flat_map (write_heads names scope) writes)) (repeats (map written_field writes)) (right_none (of_with ++ of_tests ++ of_binds) of_writes four))))
+      and_so _ (list_all (write_is_told names vs) tree.writes)
+      (and_so _ (list_all (bind_is_told names vs) tree.binds)
+      (and_so (with_is_told vs tree.with) (list_all (λ line. test_is_told names (locals_of m) line.test) tree.tests)
+      (with_told tree.with (left_none of_with of_tests two))
+      (all_told (test_line_rules names scope) (λ line. test_is_told names (locals_of m) line.test) (λ line. test_told line.test) tree.tests (right_none of_with of_tests two)))
+      (all_told (bind_rules names scope) (bind_is_told names vs) bind_told tree.binds (right_none (of_with ++ of_tests) of_binds three)))
+      (all_told (write_rules names scope) (write_is_told names vs) write_told tree.writes
+      (left_none each (others_than_first (flat_map (write_heads names scope) tree.writes))
+      (left_none (each ++ others_than_first (flat_map (write_heads names scope) tree.writes)) (repeats (map written_field tree.writes)) (right_none (of_with ++ of_tests ++ of_binds) of_writes four))))
 
   pub assignment_told : (variable : Name) (value : Assigned) → assign_rules names scope variable value ≡ [] → assignment_is_told names vs variable.label value ≡ true
   assignment_told variable (Assigned.New p) h = variable_number variable h

@@ -89,10 +89,10 @@ module _ (m : Method) (names : Declared) where
 
   statement_layer : (y : Statement-F ToldElse ToldStatement ToldBody) → Told (statement_broken (plain_statement y)) (statement_is (plain_statement y))
   statement_layer (Statement-F.Assign variable value) none = assignment_told m names variable value none
-  statement_layer (Statement-F.Atomic p w tests binds writes otherwise) none =
-      let block = block_rules names (method_scope m) w tests binds writes in
-      and_so (block_is_told names (locals_of m) w tests binds writes) (told_else otherwise.0)
-      (block_told m names w tests binds writes (left_none block (rules_of_else otherwise.0) none)) (otherwise.1 (right_none block (rules_of_else otherwise.0) none))
+  statement_layer (Statement-F.Atomic p tree otherwise) none =
+      let block = block_rules names (method_scope m) tree in
+      and_so (block_is_told names (locals_of m) tree) (told_else otherwise.0)
+      (block_told m names tree (left_none block (rules_of_else otherwise.0) none)) (otherwise.1 (right_none block (rules_of_else otherwise.0) none))
   statement_layer (Statement-F.Lock p node) none = lock_told m names p node none
   statement_layer (Statement-F.Unlock p node) none = lock_told m names p node none
   statement_layer (Statement-F.If p tests body otherwise) none =

@@ -15,9 +15,9 @@ use Rattle.plank_ast.specs.declared.header.RootLine.{RootLine}
 use Rattle.plank_ast.specs.declared.statements.Assigned.{Assigned}
 use Rattle.plank_ast.specs.declared.statements.With.{With}
 use Rattle.plank_ast.specs.declared.statements.Test.{Test as TestTree}
-use Rattle.plank_ast.specs.declared.statements.TestLine.{TestLine}
 use Rattle.plank_ast.specs.declared.statements.Tests.{Tests}
 use Rattle.plank_ast.specs.declared.statements.Bind.{Bind as BindTree}
+use Rattle.plank_ast.specs.declared.statements.Block.{Block as BlockTree}
 use Rattle.plank_ast.specs.declared.statements.Written.{Written}
 use Rattle.plank_ast.specs.declared.statements.Write.{Write as WriteTree}
 use Rattle.plank_ast.specs.declared.statements.Statement.{Statement}
@@ -167,10 +167,10 @@ assignment_is_told names variables variable (Assigned.Null place) = is_some (num
 assignment_is_told names variables variable (Assigned.Node node None) = is_some (number_of variable variables) && node_is_told variables node
 assignment_is_told names variables variable (Assigned.Node node (Some field)) = read_is_told names variables variable node field.label
 
-abbrev pub block_is_told : Declared → Locals → Option With → List TestLine → List BindTree → List WriteTree → Bool
-block_is_told names locals with_names tests binds writes =
-    with_is_told locals.variables with_names && list_all (λ line. test_is_told names locals line.test) tests
-    && list_all (bind_is_told names locals.variables) binds && list_all (write_is_told names locals.variables) writes
+abbrev pub block_is_told : Declared → Locals → BlockTree → Bool
+block_is_told names locals tree =
+    with_is_told locals.variables tree.with && list_all (λ line. test_is_told names locals line.test) tree.tests
+    && list_all (bind_is_told names locals.variables) tree.binds && list_all (write_is_told names locals.variables) tree.writes
 
 abbrev pub tests_are_told : Declared → Locals → Tests → Bool
 tests_are_told names locals tests = list_all (test_is_told names locals) (tests.first ∷ tests.others)
@@ -188,8 +188,7 @@ else_told (Else-F.Body place body) = body
 
 abbrev pub statement_told : Declared → Locals → Statement-F Bool Bool Bool → Bool
 statement_told names locals (Statement-F.Assign variable value) = assignment_is_told names locals.variables variable.label value
-statement_told names locals (Statement-F.Atomic place with_names tests binds writes otherwise) =
-    block_is_told names locals with_names tests binds writes && otherwise
+statement_told names locals (Statement-F.Atomic place tree otherwise) = block_is_told names locals tree && otherwise
 statement_told names locals (Statement-F.Lock place node) = lock_is_told names locals.variables node
 statement_told names locals (Statement-F.Unlock place node) = lock_is_told names locals.variables node
 statement_told names locals (Statement-F.If place tests body otherwise) = tests_are_told names locals tests && body && otherwise
