@@ -1,5 +1,5 @@
 -- No statement has `!` before `=` or `==`: a name or `root` follows each `!`.
-use Rattle.std.proofs.Common.{List, [], ◌∷◌, ◌++◌, map, Option, refl, sym, subst}
+use Rattle.std.proofs.Common.{List, [], ◌∷◌, ◌++◌, map, refl, sym, subst}
 use Rattle.plank_lex.specs.declared.symbols.Symbol.TheVariants as symbol
 use Rattle.plank_lex.specs.declared.words.Reserved.{Reserved}
 use Rattle.plank_lex.specs.declared.words.Reserved.TheVariants as word

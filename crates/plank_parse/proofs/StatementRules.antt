@@ -16,11 +16,8 @@ use Rattle.plank_ast.specs.declared.names.Truth.{Truth}
 use Rattle.plank_ast.specs.declared.statements.Assigned.{Assigned}
 use Rattle.plank_ast.specs.declared.statements.With.{With}
 use Rattle.plank_ast.specs.declared.statements.Test.{Test}
-use Rattle.plank_ast.specs.declared.statements.TestLine.{TestLine}
 use Rattle.plank_ast.specs.declared.statements.Tests.{Tests}
-use Rattle.plank_ast.specs.declared.statements.Bind.{Bind}
 use Rattle.plank_ast.specs.declared.statements.Written.{Written}
-use Rattle.plank_ast.specs.declared.statements.Write.{Write}
 use Rattle.plank_ast.specs.declared.statements.Statement.{Statement}
 use Rattle.plank_ast.specs.declared.statements.Statement.TheVariants as statements
 use Rattle.plank_ast.specs.declared.statements.Body.{Body}

@@ -1,5 +1,5 @@
 -- The grammar takes every statement.
-use Rattle.std.proofs.Common.{◌≡◌, Bool, true, false, not, List, [], ◌∷◌, ◌++◌, map, Option, refl, sym, subst, append_assoc}
+use Rattle.std.proofs.Common.{◌≡◌, Bool, true, false, not, List, [], ◌∷◌, ◌++◌, map, refl, sym, subst, append_assoc}
 use Rattle.std.specs.List.{flat_map}
 use Rattle.plank_lex.specs.declared.symbols.Symbol.TheVariants as symbol
 use Rattle.plank_lex.specs.declared.words.Reserved.{Reserved}

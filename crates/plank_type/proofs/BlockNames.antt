@@ -9,11 +9,8 @@ use Rattle.plank_lex.specs.Spelling.{word_of}
 use Rattle.plank_ast.specs.declared.names.Name.{Name}
 use Rattle.plank_ast.specs.declared.names.Reference.{Reference as ReferenceTree}
 use Rattle.plank_ast.specs.declared.statements.Assigned.{Assigned}
-use Rattle.plank_ast.specs.declared.statements.With.{With}
-use Rattle.plank_ast.specs.declared.statements.TestLine.{TestLine}
 use Rattle.plank_ast.specs.declared.statements.Bind.{Bind as BindTree}
 use Rattle.plank_ast.specs.declared.statements.Block.{Block as BlockTree}
-use Rattle.plank_ast.specs.declared.statements.Write.{Write as WriteTree}
 use Rattle.plank_ast.specs.declared.methods.Method.{Method}
 use Rattle.plank_ast.specs.declared.texts.Text.{Text}
 use Rattle.plank_prog.specs.declared.blocks.Bind.{Bind}

@@ -11,9 +11,7 @@ use Rattle.plank_ast.specs.declared.conditions.Operand.{Operand}
 use Rattle.plank_ast.specs.declared.conditions.AtomEnd.{AtomEnd}
 use Rattle.plank_ast.specs.declared.statements.With.{With}
 use Rattle.plank_ast.specs.declared.statements.Test.{Test as TestTree}
-use Rattle.plank_ast.specs.declared.statements.TestLine.{TestLine}
 use Rattle.plank_ast.specs.declared.statements.Tests.{Tests}
-use Rattle.plank_ast.specs.declared.statements.Bind.{Bind as BindTree}
 use Rattle.plank_ast.specs.declared.statements.Block.{Block as BlockTree}
 use Rattle.plank_ast.specs.declared.statements.Written.{Written}
 use Rattle.plank_ast.specs.declared.statements.Write.{Write as WriteTree}

@@ -12,7 +12,6 @@ use Rattle.plank_ast.specs.declared.conditions.Operand.{Operand}
 use Rattle.plank_ast.specs.declared.conditions.AtomEnd.{AtomEnd}
 use Rattle.plank_ast.specs.declared.statements.With.{With}
 use Rattle.plank_ast.specs.declared.statements.Test.{Test as TestTree}
-use Rattle.plank_ast.specs.declared.statements.TestLine.{TestLine}
 use Rattle.plank_ast.specs.declared.statements.Tests.{Tests}
 use Rattle.plank_ast.specs.declared.statements.Bind.{Bind as BindTree}
 use Rattle.plank_ast.specs.declared.statements.Block.{Block as BlockTree}
@@ -33,13 +32,13 @@ use Rattle.plank_rules.specs.declared.meanings.Meaning.{Meaning as Kind}
 use Rattle.plank_rules.specs.Declarations.{is_among, number_of, variables_of}
 use Rattle.plank_rules.specs.Faults.{when, unknown, wrong_kind}
 use Rattle.plank_rules.specs.Occurrences.{reference_place, reference_occurrence, repeats, others_than_first}
-use Rattle.plank_rules.specs.Meanings.{is_header, is_keep, name_meaning, reference_meaning, label_meaning, operand_meaning, operand_place, unknown_reference, unknown_field_name, unknown_label, misplaced, no_flag, no_pointer, no_node}
+use Rattle.plank_rules.specs.Meanings.{is_header, reference_meaning, label_meaning, operand_meaning, operand_place, unknown_reference, unknown_field_name, unknown_label, misplaced, no_flag, no_pointer}
 use Rattle.plank_rules.specs.Atoms.{is_unknown, is_sound, no_order, no_null, two_fields, compared, operand_rules, atom_end_rules}
-use Rattle.plank_rules.specs.StatementRules.{access_meaning, name_rules, node_rules, read_rules, refusal_rules, test_rules, test_heads, test_list, tests_rules, test_line_rules, bind_rules, flag_value_rules, pointer_value_rules, written_rules, write_rules, writes_rules, with_list, with_rules, optional_with_rules, block_reuses, block_rules, read_reuses, assign_rules, lock_rules, no_truth, write_heads, written_field}
+use Rattle.plank_rules.specs.StatementRules.{access_meaning, name_rules, node_rules, read_rules, test_rules, test_heads, test_list, tests_rules, test_line_rules, bind_rules, written_rules, write_rules, writes_rules, with_list, optional_with_rules, block_reuses, block_rules, read_reuses, assign_rules, lock_rules, no_truth, write_heads, written_field}
 use Rattle.plank_rules.specs.MethodRules.{method_scope}
 use Rattle.plank_type.specs.declared.operands.Meaning.{Meaning}
 use Rattle.plank_type.specs.Operands.{reference_of, field_meaning, meaning_of, bind_to, read_of, written_of, write_of}
-use Rattle.plank_type.specs.Told.{locals_of, is_flag_meant, meant_together, test_end_is_told, test_is_told, node_is_told, read_is_told, bind_is_told, value_is_told, write_is_told, with_is_told, assignment_is_told, block_is_told, tests_are_told, lock_is_told}
+use Rattle.plank_type.specs.Told.{locals_of, is_flag_meant, meant_together, test_is_told, node_is_told, read_is_told, bind_is_told, value_is_told, write_is_told, with_is_told, assignment_is_told, block_is_told, tests_are_told, lock_is_told}
 use Rattle.plank_type.proofs.Tests.{and_so, left_none, right_none}
 use Rattle.plank_type.proofs.KnownNames.{name_known}
 use Rattle.plank_type.proofs.KnownMeanings.{dotted_known, visits_in_keeps}

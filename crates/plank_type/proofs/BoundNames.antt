@@ -3,11 +3,8 @@ use Rattle.std.proofs.Common.{◌≡◌, ℕ, ◌+◌, ◌≤◌, Bool, true, fa
 use Rattle.std.specs.Prelude.{◌==◌}
 use Rattle.std.specs.List.{list_all, list_any, flat_map}
 use Rattle.std.specs.Cmp.{first_so, second_so}
-use Rattle.plank_ast.specs.declared.statements.With.{With}
-use Rattle.plank_ast.specs.declared.statements.TestLine.{TestLine}
 use Rattle.plank_ast.specs.declared.statements.Bind.{Bind as BindTree}
 use Rattle.plank_ast.specs.declared.statements.Block.{Block as BlockTree}
-use Rattle.plank_ast.specs.declared.statements.Write.{Write as WriteTree}
 use Rattle.plank_ast.specs.declared.methods.Method.{Method}
 use Rattle.plank_ast.specs.declared.texts.Text.{Text}
 use Rattle.plank_prog.specs.declared.blocks.Reference.{Reference}

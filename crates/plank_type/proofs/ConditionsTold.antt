@@ -1,5 +1,5 @@
 -- What a condition of a header compares can be compared, where it breaks no rule of typing.
-use Rattle.std.proofs.Common.{◌≡◌, ℕ, Bool, true, false, not, ◌&&◌, List, [], ◌∷◌, ◌++◌, Option, None, Some, refl, sym, ◌∙◌, ap, subst}
+use Rattle.std.proofs.Common.{◌≡◌, Bool, true, false, ◌&&◌, [], ◌++◌, None, Some, refl, sym, ◌∙◌, ap, subst}
 use Rattle.std.proofs.lemmas.Bool.{false≢true}
 use Rattle.plank_base.specs.declared.places.Place.{Place}
 use Rattle.plank_ast.specs.declared.names.Name.{Name}
@@ -7,21 +7,19 @@ use Rattle.plank_ast.specs.declared.names.Field.{Field}
 use Rattle.plank_ast.specs.declared.conditions.Operand.{Operand}
 use Rattle.plank_ast.specs.declared.conditions.Comparison.{Comparison}
 use Rattle.plank_ast.specs.declared.conditions.AtomEnd.{AtomEnd}
-use Rattle.plank_rules.specs.declared.broken.Broken.{Broken}
 use Rattle.plank_rules.specs.declared.scopes.Setting.{Setting}
 use Rattle.plank_rules.specs.declared.scopes.Scope.{Scope}
 use Rattle.plank_rules.specs.declared.names.Declared.{Declared}
 use Rattle.plank_rules.specs.declared.meanings.Meaning.{Meaning}
 use Rattle.plank_rules.specs.Faults.{when, wrong_kind}
-use Rattle.plank_rules.specs.Meanings.{is_header, name_meaning, reference_meaning, label_meaning, field_meaning, alone, dotted, operand_meaning, operand_place, unknown_name, unknown_field_name, unknown_operand, misplaced, no_flag}
-use Rattle.plank_rules.specs.Atoms.{is_unknown, is_sound, is_pointer_field, is_null, same_kind, other_kind, no_order, no_null, two_fields, compared, operand_rules, alone_rules, atom_end_rules}
+use Rattle.plank_rules.specs.Meanings.{is_header, name_meaning, reference_meaning, label_meaning, field_meaning, dotted, operand_meaning, operand_place, unknown_name, unknown_field_name, unknown_operand, misplaced, no_flag}
+use Rattle.plank_rules.specs.Atoms.{is_unknown, is_sound, no_order, no_null, two_fields, compared, operand_rules, alone_rules, atom_end_rules}
 use Rattle.plank_rules.specs.Conditions.{negation_rules}
 use Rattle.plank_rules.specs.Headers.{header_scope}
 use Rattle.plank_type.specs.declared.conditions.Asked.{Asked}
 use Rattle.plank_type.specs.Conditions.{asked_field, asked_part, asked_of}
 use Rattle.plank_type.specs.Told.{is_flag_asked, asked_together, end_is_told}
 use Rattle.plank_type.proofs.Tests.{left_none, right_none}
-use Rattle.plank_type.proofs.Distinct.{when_none}
 use Rattle.plank_type.proofs.KnownMeanings.{dotted_known, operand_known}
 use Rattle.plank_type.proofs.KnownKinds.{kind_of_field, dotted_field, alone_is_key, numbered_field}
 

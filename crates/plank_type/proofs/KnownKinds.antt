@@ -1,15 +1,14 @@
 -- What an operand is, by its names: the rules of typing and the program say the same, where no rule is broken.
-use Rattle.std.proofs.Common.{◌≡◌, ℕ, Bool, true, false, List, Option, None, Some, refl, sym, ◌∙◌, ap, if◌then◌else◌}
+use Rattle.std.proofs.Common.{◌≡◌, ℕ, Bool, true, false, List, Option, None, Some, refl, sym, ◌∙◌, if◌then◌else◌}
 use Rattle.std.specs.Option.{option_map_or}
 use Rattle.std.proofs.lemmas.Bool.{false≢true}
-use Rattle.plank_ast.specs.declared.names.Field.{Field}
 use Rattle.plank_rules.specs.declared.scopes.Setting.{Setting}
 use Rattle.plank_rules.specs.declared.names.Declared.{Declared}
 use Rattle.plank_rules.specs.declared.meanings.NodeMeaning.{NodeMeaning}
 use Rattle.plank_rules.specs.declared.meanings.FieldMeaning.{FieldMeaning}
 use Rattle.plank_rules.specs.declared.meanings.Meaning.{Meaning}
-use Rattle.plank_rules.specs.Declarations.{is_among, number_of}
-use Rattle.plank_rules.specs.Meanings.{is_header, is_freeze, reads_pointers, label_meaning, field_meaning, alone, read, misread, dotted}
+use Rattle.plank_rules.specs.Declarations.{number_of}
+use Rattle.plank_rules.specs.Meanings.{is_header, is_freeze, reads_pointers, label_meaning, alone, read, misread, dotted}
 use Rattle.plank_rules.specs.Atoms.{is_sound}
 use Rattle.plank_type.proofs.NamesOnce.{numbered_among, not_numbered}
 

@@ -15,7 +15,7 @@ use Rattle.plank_rules.specs.declared.meanings.FieldMeaning.{FieldMeaning}
 use Rattle.plank_rules.specs.declared.meanings.Meaning.{Meaning}
 use Rattle.plank_rules.specs.Faults.{when, wrong_kind}
 use Rattle.plank_rules.specs.Occurrences.{reference_place}
-use Rattle.plank_rules.specs.Meanings.{is_header, is_keep, is_freeze, reads_pointers, name_meaning, reference_meaning, label_meaning, field_meaning, alone, read, misread, dotted, operand_meaning, unknown_node, unknown_label, unknown_name, unknown_reference, unknown_field, unknown_operand, misplaced, operand_place}
+use Rattle.plank_rules.specs.Meanings.{is_header, is_keep, is_freeze, reads_pointers, name_meaning, reference_meaning, label_meaning, alone, read, misread, dotted, operand_meaning, unknown_node, unknown_label, unknown_name, unknown_reference, unknown_field, unknown_operand, misplaced, operand_place}
 use Rattle.plank_rules.specs.Atoms.{is_unknown, is_unknown_name, is_key_alone, is_node_name, is_visit, no_visit, in_rules}
 use Rattle.plank_type.proofs.Tests.{or_neither, left_none, right_none}
 

@@ -1,5 +1,5 @@
 -- What an atom of a header asks for is given where it stands, where it breaks no rule of typing.
-use Rattle.std.proofs.Common.{◌≡◌, ℕ, Bool, true, false, ◌||◌, List, [], ◌∷◌, ◌++◌, length, Option, None, Some, refl, ◌∙◌, subst, if◌then◌else◌}
+use Rattle.std.proofs.Common.{◌≡◌, ℕ, Bool, true, false, [], ◌++◌, length, Option, None, Some, refl, ◌∙◌, subst}
 use Rattle.std.specs.Prelude.{nat_lt}
 use Rattle.std.specs.Option.{option_map_or}
 use Rattle.plank_base.specs.declared.places.Place.{Place}
@@ -9,8 +9,6 @@ use Rattle.plank_ast.specs.declared.names.Reference.{Reference}
 use Rattle.plank_ast.specs.declared.conditions.Comparison.{Comparison}
 use Rattle.plank_ast.specs.declared.conditions.Operand.{Operand}
 use Rattle.plank_ast.specs.declared.conditions.AtomEnd.{AtomEnd}
-use Rattle.plank_prog.specs.declared.conditions.Condition.{Condition}
-use Rattle.plank_prog.specs.declared.conditions.KeyTerm.{KeyTerm}
 use Rattle.plank_prog.specs.declared.scopes.Scope.{Scope}
 use Rattle.plank_prog.specs.Scopes.{condition_fits, term_fits}
 use Rattle.plank_rules.specs.declared.scopes.Setting.{Setting}

@@ -1,5 +1,5 @@
 -- Statements have as many locations as their size says, and each may stand in its method, by induction over statements.
-use Rattle.std.proofs.Common.{◌≡◌, ℕ, suc, ◌<◌, ◌≤◌, ◌+◌, Bool, true, false, List, [], ◌∷◌, ◌++◌, length, map, Option, refl, sym, ◌∙◌, ap, subst, arith, length-append, if◌then◌else◌}
+use Rattle.std.proofs.Common.{◌≡◌, ℕ, suc, ◌<◌, ◌≤◌, ◌+◌, Bool, true, false, List, [], ◌∷◌, ◌++◌, length, map, refl, sym, ◌∙◌, ap, subst, arith, length-append, if◌then◌else◌}
 use Rattle.std.specs.Prelude.{nat_lt}
 use Rattle.std.specs.List.{list_all, flat_map}
 use Rattle.std.proofs.lemmas.Bool.{lt-ltb}
@@ -7,12 +7,8 @@ use Rattle.std.proofs.lemmas.List.Folds.{list_all-append, flat_map-map}
 use Rattle.plank_base.specs.declared.places.Place.{Place}
 use Rattle.plank_lex.specs.declared.words.Reserved.TheVariants as word
 use Rattle.plank_lex.specs.Spelling.{word_of}
-use Rattle.plank_ast.specs.declared.statements.With.{With}
-use Rattle.plank_ast.specs.declared.statements.TestLine.{TestLine}
 use Rattle.plank_ast.specs.declared.statements.Tests.{Tests}
-use Rattle.plank_ast.specs.declared.statements.Bind.{Bind as BindTree}
 use Rattle.plank_ast.specs.declared.statements.Block.{Block as BlockTree}
-use Rattle.plank_ast.specs.declared.statements.Write.{Write as WriteTree}
 use Rattle.plank_ast.specs.declared.statements.Statement.{Statement}
 use Rattle.plank_ast.specs.declared.statements.Body.{Body}
 use Rattle.plank_ast.specs.declared.statements.Else.{Else}

@@ -1,5 +1,5 @@
 -- A text that breaks no rule of typing is told whole in its program.
-use Rattle.std.proofs.Common.{◌≡◌, ℕ, Bool, true, not, ◌&&◌, List, [], ◌∷◌, Option, None, Some, refl, sym, ◌∙◌, ap, subst}
+use Rattle.std.proofs.Common.{◌≡◌, ℕ, true, List, [], ◌∷◌, Option, None, Some, refl, subst}
 use Rattle.std.specs.List.{list_all, flat_map}
 use Rattle.std.specs.Option.{option_map_or}
 use Rattle.plank_base.specs.declared.places.Place.{Place}
@@ -8,11 +8,10 @@ use Rattle.plank_ast.specs.declared.header.RootLine.{RootLine}
 use Rattle.plank_ast.specs.declared.header.ConditionLine.{ConditionLine}
 use Rattle.plank_ast.specs.declared.methods.Method.{Method}
 use Rattle.plank_ast.specs.declared.texts.Text.{Text}
-use Rattle.plank_rules.specs.declared.broken.Broken.{Broken}
 use Rattle.plank_rules.specs.declared.scopes.Setting.{Setting}
 use Rattle.plank_rules.specs.declared.names.Declared.{Declared}
 use Rattle.plank_rules.specs.Declarations.{distinct, start_names, methods_of}
-use Rattle.plank_rules.specs.Faults.{when, unknown}
+use Rattle.plank_rules.specs.Faults.{unknown}
 use Rattle.plank_rules.specs.Occurrences.{Occurrence}
 use Rattle.plank_rules.specs.Meanings.{label_meaning}
 use Rattle.plank_rules.specs.Conditions.{condition_rules}
@@ -23,7 +22,7 @@ use Rattle.plank_rules.specs.BrokenRules.{declared_by, broken_rules}
 use Rattle.plank_type.specs.Numbers.{names_of}
 use Rattle.plank_type.specs.Methods.{kind_word}
 use Rattle.plank_type.specs.Told.{locals_of, condition_is_told, statement_is_told, root_is_told, method_is_told, IsToldWhole}
-use Rattle.plank_type.proofs.Tests.{and_so, left_none, right_none, map_map}
+use Rattle.plank_type.proofs.Tests.{and_so, right_none, map_map}
 use Rattle.plank_type.proofs.Rules.{of_roots, of_edges, of_holds, of_keep_conditions, of_freeze, of_kind, of_statements, of_methods}
 use Rattle.plank_type.proofs.AsWritten.{declared_as_written}
 use Rattle.plank_type.proofs.HeaderLaw.{root_known}
