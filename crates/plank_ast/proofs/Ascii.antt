@@ -1,19 +1,19 @@
 -- The canonical form of a text is ASCII, since its names are.
-use Rattle.std.proofs.Common.{◌≡◌, ℕ, zero, suc, ◌+◌, ◌<◌, Bool, true, false, ◌&&◌, List, [], ◌∷◌, ◌++◌, refl, arith, nat_lt, cond}
+use Rattle.std.proofs.Common.{◌≡◌, ℕ, zero, suc, ◌<◌, Bool, true, false, ◌&&◌, List, [], ◌∷◌, refl, arith, nat_lt, cond}
 use Rattle.std.specs.List.{list_all}
 use Rattle.std.specs.Str.{IsAscii}
 use Rattle.std.proofs.lemmas.Bool.Decides.{nat_tests}
 use Rattle.std.proofs.lemmas.Str.{IsAscii-append}
 use Rattle.std.proofs.lemmas.Str.Ascii.{IsAscii-nil, IsAscii-cons}
 use Rattle.plank_lex.specs.Bytes.{is_letter, is_name_byte}
-use Rattle.plank_lex.specs.Spelling.{spelling_of, word_of, is_word, is_name, reserved_of}
+use Rattle.plank_lex.specs.Spelling.{spelling_of, word_of, is_word, is_name}
 use Rattle.plank_lex.specs.declared.symbols.Symbol.{Symbol}
 use Rattle.plank_lex.specs.declared.symbols.Symbol.TheVariants as symbol
 use Rattle.plank_lex.specs.declared.words.Reserved.{Reserved}
 use Rattle.plank_lex.specs.declared.words.Reserved.TheVariants as word
 use Rattle.plank_lex.specs.declared.tokens.TokenKind.{TokenKind}
 use Rattle.plank_lex.specs.declared.tokens.TokenKind.TheVariants as kind
-use Rattle.plank_ast.specs.Spelling.{Spelling, may_stand, is_lawful, nests_within}
+use Rattle.plank_ast.specs.Spelling.{Spelling, may_stand, is_lawful}
 use Rattle.plank_ast.specs.Layout.{blanks, breaks_line, joins, indent_levels, between, token_bytes, braces_after, layout_after, layout}
 
 -- a byte below 128

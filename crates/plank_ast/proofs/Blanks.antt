@@ -1,5 +1,5 @@
 -- One more level of indentation.
-use Rattle.std.proofs.Common.{◌≡◌, ℕ, zero, suc, ◌+◌, List, [], ◌∷◌, ◌++◌, refl, ap, ◌∙◌, sym, add-one}
+use Rattle.std.proofs.Common.{◌≡◌, ℕ, zero, suc, ◌+◌, [], ◌∷◌, ◌++◌, refl, ap, add-one}
 use Rattle.plank_ast.specs.Layout.{blanks}
 
 -- the blanks of one more level, added at the end

@@ -1,5 +1,5 @@
 -- No statement has `!` before `=` or `==`: a name or `root` follows each `!`.
-use Rattle.std.proofs.Common.{List, [], ◌∷◌, ◌++◌, map, Option, refl, sym, subst}
+use Rattle.std.proofs.Common.{List, [], ◌∷◌, ◌++◌, map, refl, sym, subst}
 use Rattle.plank_lex.specs.declared.symbols.Symbol.TheVariants as symbol
 use Rattle.plank_lex.specs.declared.words.Reserved.{Reserved}
 use Rattle.plank_lex.specs.declared.words.Reserved.TheVariants as word
@@ -11,6 +11,7 @@ use Rattle.plank_ast.specs.declared.statements.Test.{Test}
 use Rattle.plank_ast.specs.declared.statements.TestLine.{TestLine}
 use Rattle.plank_ast.specs.declared.statements.Tests.{Tests}
 use Rattle.plank_ast.specs.declared.statements.Bind.{Bind}
+use Rattle.plank_ast.specs.declared.statements.Block.{Block}
 use Rattle.plank_ast.specs.declared.statements.Written.{Written}
 use Rattle.plank_ast.specs.declared.statements.Write.{Write}
 use Rattle.plank_ast.specs.declared.statements.Statement.{Statement}
@@ -66,10 +67,10 @@ write_apart w =
     both (both (both (both (both (both (reserved word.Write) (reference_apart w.node)) (sign symbol.Dot refl)) (name_apart w.field)) (sign symbol.Assign refl)) (written_apart w.value))
     (sign symbol.Semicolon refl)
 
-block_apart : (names : Option With) (tests : List TestLine) (binds : List Bind) (writes : List Write) → Apart (block_tokens names tests binds writes)
-block_apart names tests binds writes =
-    both (both (both (perhaps with_tokens with_apart names) (every test_line_tokens test_line_apart tests)) (every bind_tokens bind_apart binds))
-    (every write_tokens write_apart writes)
+block_apart : (b : Block) → Apart (block_tokens b)
+block_apart b =
+    both (both (both (perhaps with_tokens with_apart b.with) (every test_line_tokens test_line_apart b.tests)) (every bind_tokens bind_apart b.binds))
+    (every write_tokens write_apart b.writes)
 
 node_line_apart : (r : Reserved) (node : Reference) → Apart (node_line_tokens r node)
 node_line_apart r node = both (both (reserved r) (reference_apart node)) (sign symbol.Semicolon refl)
@@ -117,8 +118,8 @@ else_layer (Else-F.Body place body) = both (reserved word.Else) body.1
 
 statement_layer : (y : Statement-F ProvedElse ProvedStatement ProvedBody) → Apart (statement_step (map-Statement Else Statement Body Spelling Spelling Spelling else_tokens statement_tokens body_tokens (plain_statement y)))
 statement_layer (Statement-F.Assign variable value) = both (both (both (name_apart variable) (sign symbol.Assign refl)) (assigned_apart value)) (sign symbol.Semicolon refl)
-statement_layer (Statement-F.Atomic place names tests binds writes otherwise) =
-    both (both (both (both (reserved word.Atomic) (sign symbol.OpenBrace refl)) (block_apart names tests binds writes)) (sign symbol.CloseBrace refl)) otherwise.1
+statement_layer (Statement-F.Atomic place block otherwise) =
+    both (both (both (both (reserved word.Atomic) (sign symbol.OpenBrace refl)) (block_apart block)) (sign symbol.CloseBrace refl)) otherwise.1
 statement_layer (Statement-F.Lock place node) = node_line_apart word.Lock node
 statement_layer (Statement-F.Unlock place node) = node_line_apart word.Unlock node
 statement_layer (Statement-F.If place tests body otherwise) = both (both (both (reserved word.If) (tests_apart tests)) body.1) otherwise.1

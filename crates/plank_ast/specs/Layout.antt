@@ -1,5 +1,5 @@
 -- The canonical form: where lines break, how they are indented, and where blanks stand between tokens.
-use Rattle.std.specs.Prelude.{ℕ, zero, suc, ◌+◌, ◌-◌, Bool, true, false, not, ◌&&◌, ◌||◌, List, [], ◌∷◌, ◌++◌, if◌then◌else◌}
+use Rattle.std.specs.Prelude.{ℕ, zero, suc, ◌+◌, ◌-◌, Bool, true, false, not, ◌||◌, List, [], ◌∷◌, ◌++◌, if◌then◌else◌}
 use Rattle.plank_lex.specs.Spelling.{spelling_of, word_of}
 use Rattle.plank_lex.specs.declared.symbols.Symbol.TheVariants as symbol
 use Rattle.plank_lex.specs.declared.words.Reserved.TheVariants as word

@@ -40,6 +40,7 @@ use Rattle.plank_ast.specs.declared.statements.Test.{Test}
 use Rattle.plank_ast.specs.declared.statements.TestLine.{TestLine}
 use Rattle.plank_ast.specs.declared.statements.Tests.{Tests}
 use Rattle.plank_ast.specs.declared.statements.Bind.{Bind}
+use Rattle.plank_ast.specs.declared.statements.Block.{Block}
 use Rattle.plank_ast.specs.declared.statements.Written.{Written}
 use Rattle.plank_ast.specs.declared.statements.Write.{Write}
 use Rattle.plank_ast.specs.declared.statements.Statement.{Statement}
@@ -225,10 +226,10 @@ write_tokens w =
     ++ written_tokens w.value ++ mark symbol.Semicolon
 
 -- what stands between the braces of an atomic block
-abbrev pub block_tokens : Option With → List TestLine → List Bind → List Write → Spelling
-block_tokens names tests binds writes =
-    option_map_or with_tokens names [] ++ flat_map test_line_tokens tests ++ flat_map bind_tokens binds
-    ++ flat_map write_tokens writes
+abbrev pub block_tokens : Block → Spelling
+block_tokens b =
+    option_map_or with_tokens b.with [] ++ flat_map test_line_tokens b.tests ++ flat_map bind_tokens b.binds
+    ++ flat_map write_tokens b.writes
 
 -- a word, a node and a semicolon
 abbrev pub node_line_tokens : Reserved → Reference → Spelling
@@ -249,9 +250,8 @@ else_step (Else-F.Body place body) = keyword word.Else ++ body
 abbrev pub statement_step : Statement-F Spelling Spelling Spelling → Spelling
 statement_step (Statement-F.Assign variable value) =
     name_tokens variable ++ mark symbol.Assign ++ assigned_tokens value ++ mark symbol.Semicolon
-statement_step (Statement-F.Atomic place names tests binds writes otherwise) =
-    keyword word.Atomic ++ mark symbol.OpenBrace ++ block_tokens names tests binds writes ++ mark symbol.CloseBrace
-    ++ otherwise
+statement_step (Statement-F.Atomic place block otherwise) =
+    keyword word.Atomic ++ mark symbol.OpenBrace ++ block_tokens block ++ mark symbol.CloseBrace ++ otherwise
 statement_step (Statement-F.Lock place node) = node_line_tokens word.Lock node
 statement_step (Statement-F.Unlock place node) = node_line_tokens word.Unlock node
 statement_step (Statement-F.If place tests body otherwise) = keyword word.If ++ tests_tokens tests ++ body ++ otherwise

@@ -26,6 +26,6 @@ pub use methods::{Method, Methods, Variables};
 pub use names::{Field, Name, Reference, Truth};
 pub use printing::print;
 pub use statements::{
-    Assigned, Bind, Body, Else, Statement, Test, TestLine, Tests, With, Write, Written,
+    Assigned, Bind, Block, Body, Else, Statement, Test, TestLine, Tests, With, Write, Written,
 };
 pub use texts::Text;

@@ -8,7 +8,7 @@ ghost use Rattle.plank_ast.specs.Spelling.{assigned_tokens, more_reference_token
 use crate::names::Reference;
 use crate::spelling::{Spelled, add_atom, add_mark, add_name, add_reference, add_truth, add_word};
 use crate::statements::{
-    Assigned, Bind, Body, Else, Statement, Test, TestLine, Tests, With, Write, Written,
+    Assigned, Bind, Block, Body, Else, Statement, Test, TestLine, Tests, With, Write, Written,
 };
 use plank_base::OutOfMemory;
 use plank_lex::{Reserved, Symbol};
@@ -157,21 +157,15 @@ fn add_writes<'a>(out: &mut Vec<Spelled<'a>>, writes: &'a [Write]) -> Result<(),
 }
 
 /// What stands between the braces of an atomic block.
-fn add_block_lines<'a>(
-    out: &mut Vec<Spelled<'a>>,
-    with: &'a Option<With>,
-    tests: &'a [TestLine],
-    binds: &'a [Bind],
-    writes: &'a [Write],
-) -> Result<(), OutOfMemory>
-    ensures { OnOk result (Adds out.old.items out.new.items (block_tokens with.now tests.now binds.now writes.now)) }
+fn add_block_lines<'a>(out: &mut Vec<Spelled<'a>>, block: &'a Block) -> Result<(), OutOfMemory>
+    ensures { OnOk result (Adds out.old.items out.new.items (block_tokens block.now)) }
 {
-    if let Some(with) = with {
+    if let Some(with) = &block.with {
         add_with(out, with)?;
     }
-    add_test_lines(out, tests)?;
-    add_binds(out, binds)?;
-    add_writes(out, writes)
+    add_test_lines(out, block.tests.as_slice())?;
+    add_binds(out, block.binds.as_slice())?;
+    add_writes(out, block.writes.as_slice())
 }
 
 #[cycle(statements)]
@@ -213,22 +207,13 @@ pub(crate) fn add_statement<'a>(
             add_mark(out, Symbol::Semicolon)
         }
         Statement::Atomic {
-            with,
-            tests,
-            binds,
-            writes,
+            block,
             otherwise,
             ..
         } => {
             add_word(out, Reserved::Atomic)?;
             add_mark(out, Symbol::OpenBrace)?;
-            add_block_lines(
-                out,
-                with,
-                tests.as_slice(),
-                binds.as_slice(),
-                writes.as_slice(),
-            )?;
+            add_block_lines(out, block)?;
             add_mark(out, Symbol::CloseBrace)?;
             add_else(out, otherwise)
         }

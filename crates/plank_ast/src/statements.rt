@@ -28,13 +28,10 @@ pub enum Statement {
         variable: Name,
         value: Assigned,
     },
-    /// `"atomic" "{" [with] {test} {bind} {write} "}" [else]`.
+    /// `"atomic" "{" block "}" [else]`.
     Atomic {
         place: Place,
-        with: Option<With>,
-        tests: Items<TestLine>,
-        binds: Items<Bind>,
-        writes: Items<Write>,
+        block: Block,
         otherwise: Else,
     },
     /// `"lock" ref ";"`.
@@ -86,6 +83,15 @@ pub enum Assigned {
         node: Reference,
         field: Option<Name>,
     },
+}
+
+/// What stands between the braces of an atomic block: `[with] {test} {bind} {write}`.
+#[derive(Debug, Drop)]
+pub struct Block {
+    pub with: Option<With>,
+    pub tests: Items<TestLine>,
+    pub binds: Items<Bind>,
+    pub writes: Items<Write>,
 }
 
 /// `"with" ref {"," ref} ";"`.

@@ -26,7 +26,7 @@ use Rattle.plank_ast.specs.declared.statements.Else.TheVariants as elses
 use Rattle.plank_ast.specs.declared.statements.Else.TheOpen.{Else-F, Statement-F}
 use Rattle.plank_ast.specs.declared.statements.Else.TheViews.{roll-Statement, roll-Body}
 use Rattle.plank_ast.specs.declared.statements.Else.TheFolds.{map-Statement, fold-roll-Else, fold-roll-Statement, fold-roll-Body}
-use Rattle.plank_parse.specs.declared.pieces.Block.{Block}
+use Rattle.plank_ast.specs.declared.statements.Block.{Block}
 use Rattle.plank_parse.specs.Readers.{Reader, ◌<$>◌, pure, is_kind, is_name, is_other}
 use Rattle.plank_parse.specs.Conditions.{reference, truth, atom}
 use Rattle.plank_parse.specs.Statements.{assigned_node, assigned_by, assigned, assignment, negated_test, test_by, plain_test, tests, with_line, test_line, selection, bind, written_by, written, write, block, braced_block, node_line, word_line, return_line, otherwise_over, atomic_over, if_over, while_over, loop_over, statement_by, statement_over, braced, body, statement}
@@ -58,10 +58,10 @@ statement_kept y = fold-roll-Statement Places Places Places else_layer statement
 assign_kept : (variable : Name) (value : Assigned) → statement_places (statements.Assign variable value) ≡ name_places variable ⊕ bare ⊕ assigned_places value ⊕ bare
 assign_kept variable value = ap statement_places (sym (statements.rolls-Assign variable value)) ∙ statement_kept (Statement-F.Assign variable value)
 
-atomic_kept : (place : Place) (b : Block) (otherwise : Else) → statement_places (statements.Atomic place b.names b.tests b.binds b.writes otherwise) ≡ at place ⊕ (bare ⊕ block_places b.names b.tests b.binds b.writes ⊕ bare) ⊕ else_places otherwise
+atomic_kept : (place : Place) (b : Block) (otherwise : Else) → statement_places (statements.Atomic place b otherwise) ≡ at place ⊕ (bare ⊕ block_places b ⊕ bare) ⊕ else_places otherwise
 atomic_kept place b otherwise =
-    ap statement_places (sym (statements.rolls-Atomic place b.names b.tests b.binds b.writes otherwise))
-    ∙ statement_kept (Statement-F.Atomic place b.names b.tests b.binds b.writes otherwise)
+    ap statement_places (sym (statements.rolls-Atomic place b otherwise))
+    ∙ statement_kept (Statement-F.Atomic place b otherwise)
 
 if_kept : (place : Place) (tests : Tests) (found : Body) (otherwise : Else) → statement_places (statements.If place tests found otherwise) ≡ at place ⊕ tests_places tests ⊕ body_places found ⊕ else_places otherwise
 if_kept place tests found otherwise = ap statement_places (sym (statements.rolls-If place tests found otherwise)) ∙ statement_kept (Statement-F.If place tests found otherwise)
@@ -195,19 +195,16 @@ write_at = step (word_at words.Write) (λ place a h. step selection_at (λ to b 
     finish (λ end. write_of place to value) (bare_symbol symbols.Semicolon) (λ end f o. join h (join k (join m (join n o))))))))
 
 abbrev block_of : Option With → List TestLine → List Bind → List Write → Block
-block_of names tests binds writes = record { names = names; tests = tests; binds = binds; writes = writes }
+block_of names tests binds writes = record { with = names; tests = tests; binds = binds; writes = writes }
 
-abbrev inner_places : Block → Places
-inner_places b = block_places b.names b.tests b.binds b.writes
-
-block_at : Keeps block (At inner_places)
+block_at : Keeps block (At block_places)
 unfolding block
 block_at = step (optional_at (kind.Reserved words.With) with_at) (λ names a h. step (many_at (is_kind (kind.Reserved words.Test)) test_line_at) (λ tests b k.
     step (many_at is_name bind_at) (λ binds d m.
     finish (block_of names tests binds) (many_at (is_kind (kind.Reserved words.Write)) write_at) (λ writes e n. join h (join k (join m n))))))
 
 abbrev braced_places : Block → Places
-braced_places b = bare ⊕ inner_places b ⊕ bare
+braced_places b = bare ⊕ block_places b ⊕ bare
 
 braced_block_at : (levels : ℕ) → Keeps (braced_block levels) (At braced_places)
 unfolding braced_block
@@ -252,7 +249,7 @@ module _ (inner : Reader Body) (f : Keeps inner (At body_places)) where
   atomic_at : (levels : ℕ) → Keeps (atomic_over levels inner) (At statement_places)
   unfolding atomic_over
   atomic_at levels = step (word_at words.Atomic) (λ place a h. step (braced_block_at levels) (λ found b k.
-      finish (statements.Atomic place found.names found.tests found.binds found.writes) otherwise_at (λ otherwise d m. moved (sym (atomic_kept place found otherwise)) (join h (join k m)))))
+      finish (statements.Atomic place found) otherwise_at (λ otherwise d m. moved (sym (atomic_kept place found otherwise)) (join h (join k m)))))
 
   if_at : (levels : ℕ) → Keeps (if_over levels inner) (At statement_places)
   unfolding if_over

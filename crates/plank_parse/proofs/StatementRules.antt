@@ -16,11 +16,8 @@ use Rattle.plank_ast.specs.declared.names.Truth.{Truth}
 use Rattle.plank_ast.specs.declared.statements.Assigned.{Assigned}
 use Rattle.plank_ast.specs.declared.statements.With.{With}
 use Rattle.plank_ast.specs.declared.statements.Test.{Test}
-use Rattle.plank_ast.specs.declared.statements.TestLine.{TestLine}
 use Rattle.plank_ast.specs.declared.statements.Tests.{Tests}
-use Rattle.plank_ast.specs.declared.statements.Bind.{Bind}
 use Rattle.plank_ast.specs.declared.statements.Written.{Written}
-use Rattle.plank_ast.specs.declared.statements.Write.{Write}
 use Rattle.plank_ast.specs.declared.statements.Statement.{Statement}
 use Rattle.plank_ast.specs.declared.statements.Statement.TheVariants as statements
 use Rattle.plank_ast.specs.declared.statements.Body.{Body}
@@ -30,7 +27,7 @@ use Rattle.plank_ast.specs.declared.statements.Else.TheOpen.{Else-F, Statement-F
 use Rattle.plank_ast.specs.declared.statements.Else.TheViews.{roll-Statement, roll-Body}
 use Rattle.plank_ast.specs.declared.statements.Else.TheFolds.{map-Statement, fold-roll-Else, fold-roll-Statement, fold-roll-Body}
 use Rattle.plank_ast.specs.Spelling.{Spelling, mark, keyword, name_tokens, reference_tokens, truth_tokens, assigned_tokens, with_tokens, more_reference_tokens, test_tokens, test_line_tokens, more_test_tokens, tests_tokens, bind_tokens, written_tokens, write_tokens, block_tokens, node_line_tokens, word_line_tokens, else_step, statement_step, body_step, statement_tokens, body_tokens, else_tokens}
-use Rattle.plank_parse.specs.declared.pieces.Block.{Block}
+use Rattle.plank_ast.specs.declared.statements.Block.{Block}
 use Rattle.plank_parse.specs.Readers.{Reader, ◌>>=◌, ◌>>◌, ◌<$>◌, pure, name, is_name, is_kind, is_other, many, many_from, optional, expected, blocked}
 use Rattle.plank_parse.specs.Conditions.{reference, truth, atom}
 use Rattle.plank_parse.specs.Statements.{assigned_node, assigned_by, assigned, assignment, negated_test, test_by, plain_test, tests, with_line, test_line, selection, bind, written_by, written, write, block, braced_block, node_line, word_line, return_line, otherwise_over, atomic_over, if_over, while_over, loop_over, statement_by, statement_over, braced, body}
@@ -184,17 +181,14 @@ write_law l =
     step _ _ _ _ _ _ (word_law word.Write) (λ place. step _ _ _ _ _ _ (selection_law l) (λ to. step _ _ _ _ _ _ (symbol_law symbol.Assign) (λ sign. step _ _ _ _ _ _ (written_law l) (λ value.
     finish _ _ (λ end. record { place = place; node = to.0; field = to.1; value = value }) _ _ (symbol_law symbol.Semicolon) (λ end. write_spelled place to.0 to.1 value)))))
 
--- the tokens of a block, and with its braces
-abbrev inner_tokens : Block → Spelling
-inner_tokens b = block_tokens b.names b.tests b.binds b.writes
-
+-- the tokens of a block with its braces
 abbrev braced_tokens : Block → Spelling
-braced_tokens b = mark symbol.OpenBrace ++ (inner_tokens b ++ mark symbol.CloseBrace)
+braced_tokens b = mark symbol.OpenBrace ++ (block_tokens b ++ mark symbol.CloseBrace)
 
-pub block_spelled : (names : Option With) (tests : List TestLine) (binds : List Bind) (writes : List Write) → option_map_or with_tokens names [] ++ (flat_map test_line_tokens tests ++ (flat_map bind_tokens binds ++ flat_map write_tokens writes)) ≡ block_tokens names tests binds writes
-block_spelled names tests binds writes = sym
-    (append_assoc (option_map_or with_tokens names [] ++ flat_map test_line_tokens tests) (flat_map bind_tokens binds) (flat_map write_tokens writes)
-    ∙ append_assoc (option_map_or with_tokens names []) (flat_map test_line_tokens tests) (flat_map bind_tokens binds ++ flat_map write_tokens writes))
+pub block_spelled : (b : Block) → option_map_or with_tokens b.with [] ++ (flat_map test_line_tokens b.tests ++ (flat_map bind_tokens b.binds ++ flat_map write_tokens b.writes)) ≡ block_tokens b
+block_spelled b = sym
+    (append_assoc (option_map_or with_tokens b.with [] ++ flat_map test_line_tokens b.tests) (flat_map bind_tokens b.binds) (flat_map write_tokens b.writes)
+    ∙ append_assoc (option_map_or with_tokens b.with []) (flat_map test_line_tokens b.tests) (flat_map bind_tokens b.binds ++ flat_map write_tokens b.writes))
 
 perhaps_with : (l : ℕ) → Follows (reads rules l (perhaps with_line_g)) (optional (kind.Reserved word.With) with_line) (Says (λ (o : Option With). option_map_or with_tokens o []))
 unfolding with_line_g
@@ -212,11 +206,12 @@ writes_law : (l : ℕ) → Follows (reads rules l (many_of write_g)) (many_from 
 unfolding write_g
 writes_law l = many_law _ _ (word_class word.Write ∷ []) _ _ (word_test word.Write) (write_law l)
 
-block_law : (l : ℕ) → Follows (reads rules l block_g) block (Says inner_tokens)
+block_law : (l : ℕ) → Follows (reads rules l block_g) block (Says block_tokens)
 unfolding block block_g
 block_law l =
     step _ _ _ _ _ _ (perhaps_with l) (λ names. step _ _ _ _ _ _ (test_lines_law l) (λ tests. step _ _ _ _ _ _ (binds_law l) (λ binds.
-    finish _ _ (λ writes. record { names = names; tests = tests; binds = binds; writes = writes }) _ _ (writes_law l) (λ writes. block_spelled names tests binds writes))))
+    finish _ _ (λ writes. record { with = names; tests = tests; binds = binds; writes = writes }) _ _ (writes_law l)
+    (λ writes. block_spelled (record { with = names; tests = tests; binds = binds; writes = writes })))))
 
 braced_block_law : (l : ℕ) → Follows (reads rules l braced_block_g) (braced_block l) (Says braced_tokens)
 unfolding braced_block braced_block_g rules
@@ -265,16 +260,16 @@ otherwise_law l inner f =
     (step _ _ _ _ _ _ (word_law word.Else) (λ place. finish _ _ (elses.Body place) _ _ f (λ found. else_spelled place found)))
     (pure_law elses.Nothing _ no_else_spelled)
 
-atomic_spelled : (place : Place) (inner : Block) (otherwise : Else) → keyword word.Atomic ++ (braced_tokens inner ++ else_tokens otherwise) ≡ statement_tokens (statements.Atomic place inner.names inner.tests inner.binds inner.writes otherwise)
+atomic_spelled : (place : Place) (inner : Block) (otherwise : Else) → keyword word.Atomic ++ (braced_tokens inner ++ else_tokens otherwise) ≡ statement_tokens (statements.Atomic place inner otherwise)
 atomic_spelled place inner otherwise = sym
-    (ap statement_tokens (sym (statements.rolls-Atomic place inner.names inner.tests inner.binds inner.writes otherwise))
-    ∙ statement_spelled (Statement-F.Atomic place inner.names inner.tests inner.binds inner.writes otherwise))
+    (ap statement_tokens (sym (statements.rolls-Atomic place inner otherwise))
+    ∙ statement_spelled (Statement-F.Atomic place inner otherwise))
 
 atomic_law : (l : ℕ) (inner : Reader Body) → ReadsBodies l inner → Follows (reads rules l atomic_g) (atomic_over l inner) (Says statement_tokens)
 unfolding atomic_over atomic_g
 atomic_law l inner f =
     step _ _ _ _ _ _ (word_law word.Atomic) (λ place. step _ _ _ _ _ _ (braced_block_law l) (λ b.
-    finish _ _ (statements.Atomic place b.names b.tests b.binds b.writes) _ _ (otherwise_law l inner f) (λ otherwise. atomic_spelled place b otherwise)))
+    finish _ _ (statements.Atomic place b) _ _ (otherwise_law l inner f) (λ otherwise. atomic_spelled place b otherwise)))
 
 if_spelled : (place : Place) (own : Tests) (found : Body) (otherwise : Else) → keyword word.If ++ (tests_tokens own ++ (body_tokens found ++ else_tokens otherwise)) ≡ statement_tokens (statements.If place own found otherwise)
 if_spelled place own found otherwise = sym

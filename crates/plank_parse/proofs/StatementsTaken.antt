@@ -1,5 +1,5 @@
 -- The grammar takes every statement.
-use Rattle.std.proofs.Common.{◌≡◌, Bool, true, false, not, List, [], ◌∷◌, ◌++◌, map, Option, refl, sym, subst, append_assoc}
+use Rattle.std.proofs.Common.{◌≡◌, Bool, true, false, not, List, [], ◌∷◌, ◌++◌, map, refl, sym, subst, append_assoc}
 use Rattle.std.specs.List.{flat_map}
 use Rattle.plank_lex.specs.declared.symbols.Symbol.TheVariants as symbol
 use Rattle.plank_lex.specs.declared.words.Reserved.{Reserved}
@@ -13,6 +13,7 @@ use Rattle.plank_ast.specs.declared.statements.Test.{Test}
 use Rattle.plank_ast.specs.declared.statements.TestLine.{TestLine}
 use Rattle.plank_ast.specs.declared.statements.Tests.{Tests}
 use Rattle.plank_ast.specs.declared.statements.Bind.{Bind}
+use Rattle.plank_ast.specs.declared.statements.Block.{Block}
 use Rattle.plank_ast.specs.declared.statements.Written.{Written}
 use Rattle.plank_ast.specs.declared.statements.Write.{Write}
 use Rattle.plank_ast.specs.declared.statements.Statement.{Statement}
@@ -95,15 +96,15 @@ unfolding write_g selection_g written_g reference_g
 write_taken w = subst (λ (ks : Spelling). Takes write_g ks) (write_spelled w.place w.node w.field w.value)
     (then_taken refl (word_taken word.Write) (then_taken refl (selection_taken w.node w.field) (then_taken refl (sign_taken symbol.Assign) (then_taken refl (written_taken w.value) (sign_taken symbol.Semicolon)))))
 
-block_taken : (names : Option With) (ts : List TestLine) (binds : List Bind) (writes : List Write) → Takes block_g (block_tokens names ts binds writes)
+block_taken : (b : Block) → Takes block_g (block_tokens b)
 unfolding reference_g field_g node_operand_g operand_g atom_end_g atom_g negated_test_g test_g with_line_g test_line_g selection_g bind_g written_g write_g block_g
-block_taken names ts binds writes = subst (λ (ks : Spelling). Takes block_g ks) (block_spelled names ts binds writes)
-    (then_taken refl (perhaps_taken with_line_g with_tokens refl with_taken names) (then_taken refl (every_taken test_line_g test_line_tokens refl refl test_line_taken ts)
-    (then_taken refl (every_taken bind_g bind_tokens refl refl bind_taken binds) (every_taken write_g write_tokens refl refl write_taken writes))))
+block_taken b = subst (λ (ks : Spelling). Takes block_g ks) (block_spelled b)
+    (then_taken refl (perhaps_taken with_line_g with_tokens refl with_taken b.with) (then_taken refl (every_taken test_line_g test_line_tokens refl refl test_line_taken b.tests)
+    (then_taken refl (every_taken bind_g bind_tokens refl refl bind_taken b.binds) (every_taken write_g write_tokens refl refl write_taken b.writes))))
 
-braced_block_taken : (names : Option With) (ts : List TestLine) (binds : List Bind) (writes : List Write) → Takes braced_block_g (mark symbol.OpenBrace ++ (block_tokens names ts binds writes ++ mark symbol.CloseBrace))
+braced_block_taken : (b : Block) → Takes braced_block_g (mark symbol.OpenBrace ++ (block_tokens b ++ mark symbol.CloseBrace))
 unfolding reference_g field_g node_operand_g operand_g atom_end_g atom_g negated_test_g test_g with_line_g test_line_g selection_g bind_g written_g write_g block_g braced_block_g rules
-braced_block_taken names ts binds writes = group_taken (kind.Symbol symbol.OpenBrace) block (kind.Symbol symbol.CloseBrace) (block_tokens names ts binds writes) refl (block_taken names ts binds writes)
+braced_block_taken b = group_taken (kind.Symbol symbol.OpenBrace) block (kind.Symbol symbol.CloseBrace) (block_tokens b) refl (block_taken b)
 
 -- ---- by induction over statements
 
@@ -172,7 +173,7 @@ if_taken ts body otherwise = subst (λ (ks : Spelling). Takes if_g ks) (sym (app
 statement_layer : (y : Statement-F ProvedElse ProvedStatement ProvedBody) → Takes statement_g (statement_step (map-Statement Else Statement Body Spelling Spelling Spelling else_tokens statement_tokens body_tokens (plain_statement y)))
 unfolding reference_g assigned_node_g assigned_g assignment_g atomic_g node_line_g if_g while_g loop_g word_line_g return_line_g truth_g tests_g body_g otherwise_g braced_block_g statement_g
 statement_layer (Statement-F.Assign variable value) = first_taken refl (then_taken refl (name_taken variable) (then_taken refl (sign_taken symbol.Assign) (then_taken refl (assigned_taken value) (sign_taken symbol.Semicolon))))
-statement_layer (Statement-F.Atomic place names ts binds writes otherwise) = second_taken refl (first_taken refl (then_taken refl (word_taken word.Atomic) (then_taken refl (braced_block_taken names ts binds writes) otherwise.1)))
+statement_layer (Statement-F.Atomic place b otherwise) = second_taken refl (first_taken refl (then_taken refl (word_taken word.Atomic) (then_taken refl (braced_block_taken b) otherwise.1)))
 statement_layer (Statement-F.Lock place node) = second_taken refl (second_taken refl (first_taken refl (node_line_taken word.Lock node)))
 statement_layer (Statement-F.Unlock place node) = second_taken refl (second_taken refl (second_taken refl (first_taken refl (node_line_taken word.Unlock node))))
 statement_layer (Statement-F.If place ts body otherwise) = second_taken refl (second_taken refl (second_taken refl (second_taken refl (first_taken refl (if_taken ts body otherwise)))))

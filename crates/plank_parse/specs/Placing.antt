@@ -30,6 +30,7 @@ use Rattle.plank_ast.specs.declared.statements.Test.{Test}
 use Rattle.plank_ast.specs.declared.statements.TestLine.{TestLine}
 use Rattle.plank_ast.specs.declared.statements.Tests.{Tests}
 use Rattle.plank_ast.specs.declared.statements.Bind.{Bind}
+use Rattle.plank_ast.specs.declared.statements.Block.{Block}
 use Rattle.plank_ast.specs.declared.statements.Written.{Written}
 use Rattle.plank_ast.specs.declared.statements.Write.{Write}
 use Rattle.plank_ast.specs.declared.statements.Statement.{Statement}
@@ -203,9 +204,9 @@ abbrev pub write_places : Write → Places
 write_places w = at w.place ⊕ selection_places w.node w.field ⊕ bare ⊕ written_places w.value ⊕ bare
 
 -- what stands between the braces of an atomic block
-abbrev pub block_places : Option With → List TestLine → List Bind → List Write → Places
-block_places names tests binds writes =
-    if_any with_places names ⊕ flat_map test_line_places tests ⊕ flat_map bind_places binds ⊕ flat_map write_places writes
+abbrev pub block_places : Block → Places
+block_places b =
+    if_any with_places b.with ⊕ flat_map test_line_places b.tests ⊕ flat_map bind_places b.binds ⊕ flat_map write_places b.writes
 
 -- one layer of a statement, the places of its parts known already
 abbrev pub body_layer : Body-F Places Places Places → Places
@@ -217,8 +218,7 @@ else_layer (Else-F.Body place body) = at place ⊕ body
 
 abbrev pub statement_layer : Statement-F Places Places Places → Places
 statement_layer (Statement-F.Assign variable value) = name_places variable ⊕ bare ⊕ assigned_places value ⊕ bare
-statement_layer (Statement-F.Atomic place names tests binds writes otherwise) =
-    at place ⊕ (bare ⊕ block_places names tests binds writes ⊕ bare) ⊕ otherwise
+statement_layer (Statement-F.Atomic place block otherwise) = at place ⊕ (bare ⊕ block_places block ⊕ bare) ⊕ otherwise
 statement_layer (Statement-F.Lock place node) = at place ⊕ reference_places node ⊕ bare
 statement_layer (Statement-F.Unlock place node) = at place ⊕ reference_places node ⊕ bare
 statement_layer (Statement-F.If place tests body otherwise) = at place ⊕ tests_places tests ⊕ body ⊕ otherwise

@@ -22,7 +22,7 @@ use Rattle.plank_ast.specs.declared.statements.Body.{Body}
 use Rattle.plank_ast.specs.declared.statements.Else.{Else}
 use Rattle.plank_ast.specs.declared.statements.Else.TheVariants as elses
 use Rattle.plank_ast.specs.declared.statements.Else.TheViews.{roll-Body}
-use Rattle.plank_parse.specs.declared.pieces.Block.{Block}
+use Rattle.plank_ast.specs.declared.statements.Block.{Block}
 use Rattle.plank_parse.specs.Readers.{Reader, read, ◌>>=◌, ◌>>◌, ◌<$>◌, pure, refuse, begins, is_kind, is_name, word, symbol, name, by_kind, taken, optional, many, many_from, many_until, each_after, blocked, opening}
 use Rattle.plank_parse.specs.Conditions.{reference, dotted, truth, atom}
 
@@ -135,7 +135,7 @@ block = do
   tests ← many_from (kind.Reserved words.Test) test_line
   binds ← many is_name bind
   writes ← many_from (kind.Reserved words.Write) write
-  pure (record { names = names; tests = tests; binds = binds; writes = writes })
+  pure (record { with = names; tests = tests; binds = binds; writes = writes })
 
 -- an atomic block with its braces
 unfoldable pub braced_block : ℕ → Reader Block
@@ -182,7 +182,7 @@ atomic_over levels body = do
   place ← word words.Atomic
   inner ← braced_block levels
   otherwise ← otherwise_over body
-  pure (statements.Atomic place inner.names inner.tests inner.binds inner.writes otherwise)
+  pure (statements.Atomic place inner otherwise)
 
 unfoldable pub if_over : ℕ → Reader Body → Reader Statement
 if_over levels body = do

@@ -9,9 +9,8 @@ use crate::atoms::atom;
 use crate::front::{begins_with_word, expect_symbol, expect_word, name, open, peek, take};
 use crate::lists::{Part, each_after, many_from, many_named};
 use crate::names::{reference, truth};
-use crate::pieces::Block;
 use crate::stops::Reading;
-use plank_ast::{Bind, Name, Reference, Test, TestLine, Tests, With, Write, Written};
+use plank_ast::{Bind, Block, Name, Reference, Test, TestLine, Tests, With, Write, Written};
 use plank_lex::{Reserved, Symbol, Token, TokenKind};
 use std::alloc::Global;
 
@@ -181,12 +180,12 @@ impl Part for Write {
 fn block<'a>(alloc: Global, tokens: &'a [Token]) -> Reading<'a, Block>
     ensures { Gives result (spec.block tokens.now) }
 {
-    let (names, rest) = with_if_any(alloc, tokens)?;
+    let (with, rest) = with_if_any(alloc, tokens)?;
     let (tests, rest) = many_from::<TestLine>(alloc, rest, Reserved::Test)?;
     let (binds, rest) = many_named::<Bind>(alloc, rest)?;
     let (writes, rest) = many_from::<Write>(alloc, rest, Reserved::Write)?;
     let block = Block {
-        names,
+        with,
         tests,
         binds,
         writes,

@@ -1,19 +1,10 @@
 //! Parts that the tree has in another part, on their way to it.
 use plank_ast::{
-    Bind, ConditionLine, FlagLine, Name, NamedCondition, PointerLine, RootLine, StartLine,
-    Statement, TestLine, Variables, With, Write,
+    ConditionLine, FlagLine, Name, NamedCondition, PointerLine, RootLine, StartLine, Statement,
+    Variables,
 };
 use plank_base::Place;
 use sqlite_items::Items;
-
-/// What stands between the braces of an atomic block.
-#[derive(Debug, Drop)]
-pub(crate) struct Block {
-    pub names: Option<With>,
-    pub tests: Items<TestLine>,
-    pub binds: Items<Bind>,
-    pub writes: Items<Write>,
-}
 
 /// What stands before the braces of a method.
 #[derive(Debug, Drop)]

@@ -124,14 +124,11 @@ fn atomic<'a>(alloc: Global, tokens: &'a [Token], levels: u32) -> Reading<'a, St
     ensures { Gives result (spec.atomic_over levels (spec.body levels) tokens.now) }
 {
     let (place, rest) = expect_word(tokens, Reserved::Atomic)?;
-    let (inner, rest) = braced_block(alloc, rest, levels)?;
+    let (block, rest) = braced_block(alloc, rest, levels)?;
     let (otherwise, rest) = otherwise(alloc, rest, levels)?;
     let statement = Statement::Atomic {
         place,
-        with: inner.names,
-        tests: inner.tests,
-        binds: inner.binds,
-        writes: inner.writes,
+        block,
         otherwise,
     };
     Ok((statement, rest))

@@ -1,5 +1,5 @@
 -- The first of broken rules is one of them, and none stands before it.
-use Rattle.std.proofs.Common.{◌≡◌, ℕ, Bool, true, false, nat_lt, inl, inr, List, [], ◌∷◌, Some, refl, arith}
+use Rattle.std.proofs.Common.{◌≡◌, ℕ, Bool, true, false, nat_lt, inl, inr, List, [], ◌∷◌, Option, None, Some, refl, subst, arith}
 use Rattle.std.proofs.Common.{fold}
 use Rattle.std.specs.List.{Contains}
 use Rattle.std.specs.Option.{MatchOption}
@@ -113,3 +113,7 @@ found a (x ∷ xs) = chosen a x xs (stands_before x a) refl (found x xs) (found 
 pub first_is_least : (broken : List Broken) → MatchOption (first_of broken) (broken ≡ []) (IsFirst broken)
 first_is_least [] = refl
 first_is_least (a ∷ xs) = let f = found a xs in rw f.is f.is_first
+
+-- where none is first, there is none
+pub none_broken : (broken : List Broken) → first_of broken ≡ None → broken ≡ []
+none_broken broken h = subst (λ (o : Option Broken). MatchOption o (broken ≡ []) (IsFirst broken)) h (first_is_least broken)

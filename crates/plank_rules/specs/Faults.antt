@@ -1,8 +1,10 @@
 -- The rules that a text may break, each at a token.
-use Rattle.std.specs.Prelude.{◌≡◌, Bool, if◌then◌else◌, List, [], ◌∷◌, ◌++◌}
+use Rattle.std.specs.Prelude.{◌≡◌, Bool, if◌then◌else◌, List, [], ◌∷◌, Option, fold}
 use Rattle.plank_base.specs.declared.places.Place.{Place}
 use Rattle.plank_base.specs.declared.typing.TypeKind.{TypeKind}
 use Rattle.plank_rules.specs.declared.broken.Broken.{Broken}
+use Rattle.plank_rules.specs.declared.findings.Findings.{Findings}
+use Rattle.plank_rules.specs.FirstOf.{earlier}
 
 abbrev pub unknown : Place → Broken
 unknown place = record { kind = TypeKind.Unknown; place = place }
@@ -26,6 +28,10 @@ not_one_root place = record { kind = TypeKind.NotOneRoot; place = place }
 abbrev pub when : Bool → Broken → List Broken
 when test broken = if test then broken ∷ [] else []
 
--- these broken rules were added at the end
-abbrev pub Adds : List Broken → List Broken → List Broken → Type 0
-Adds old new more = new ≡ old ++ more
+-- the first of what was found before and of these broken rules
+abbrev pub after : Option Broken → List Broken → Option Broken
+after first broken = fold earlier first broken
+
+-- these broken rules were found besides
+abbrev pub Adds : Findings → Findings → List Broken → Type 0
+Adds old new more = new.first ≡ after old.first more

@@ -34,7 +34,7 @@ else_flow_layer (Else-F.Body place body) = body
 -- a `loop` can where it has a `break` of its own, and an `if` where a branch can
 abbrev pub statement_flow_layer : Statement-F Flow Flow Flow → Flow
 statement_flow_layer (Statement-F.Assign variable value) = flow true false
-statement_flow_layer (Statement-F.Atomic place names tests binds writes otherwise) = flow true otherwise.breaks
+statement_flow_layer (Statement-F.Atomic place block otherwise) = flow true otherwise.breaks
 statement_flow_layer (Statement-F.Lock place node) = flow true false
 statement_flow_layer (Statement-F.Unlock place node) = flow true false
 statement_flow_layer (Statement-F.If place tests body otherwise) = either body otherwise

@@ -12,3 +12,4 @@ pub mod Meanings
 pub mod MethodRules
 pub mod Occurrences
 pub mod StatementRules
+pub mod Untyped

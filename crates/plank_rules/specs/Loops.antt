@@ -20,7 +20,7 @@ stray_in_else (Else-F.Body place body) = body
 
 abbrev pub stray_in_statement : Statement-F (List Broken) (List Broken) (List Broken) → List Broken
 stray_in_statement (Statement-F.Assign variable value) = []
-stray_in_statement (Statement-F.Atomic place names tests binds writes otherwise) = otherwise
+stray_in_statement (Statement-F.Atomic place block otherwise) = otherwise
 stray_in_statement (Statement-F.Lock place node) = []
 stray_in_statement (Statement-F.Unlock place node) = []
 stray_in_statement (Statement-F.If place tests body otherwise) = body ++ otherwise
@@ -69,7 +69,7 @@ still_in_else (Else-F.Body place body) = body.loops
 
 abbrev pub still_in_statement : Statement-F (List Broken) Still StillBody → Still
 still_in_statement (Statement-F.Assign variable value) = going []
-still_in_statement (Statement-F.Atomic place names tests binds writes otherwise) = going otherwise
+still_in_statement (Statement-F.Atomic place block otherwise) = going otherwise
 still_in_statement (Statement-F.Lock place node) = going []
 still_in_statement (Statement-F.Unlock place node) = going []
 still_in_statement (Statement-F.If place tests body otherwise) = going (body.loops ++ otherwise)

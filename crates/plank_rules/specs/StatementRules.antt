@@ -13,6 +13,7 @@ use Rattle.plank_ast.specs.declared.statements.Test.{Test}
 use Rattle.plank_ast.specs.declared.statements.TestLine.{TestLine}
 use Rattle.plank_ast.specs.declared.statements.Tests.{Tests}
 use Rattle.plank_ast.specs.declared.statements.Bind.{Bind}
+use Rattle.plank_ast.specs.declared.statements.Block.{Block}
 use Rattle.plank_ast.specs.declared.statements.Written.{Written}
 use Rattle.plank_ast.specs.declared.statements.Write.{Write}
 use Rattle.plank_ast.specs.declared.statements.Statement.{Statement}
@@ -130,9 +131,9 @@ with_list names = names.first ∷ names.others
 abbrev pub with_names : Option With → List Occurrence
 with_names names = option_map_or (λ w. map reference_occurrence (with_list w)) names []
 
-abbrev pub block_names : Option With → List TestLine → List Bind → List Write → List Occurrence
-block_names names tests binds writes =
-    with_names names ++ flat_map test_line_names tests ++ flat_map bind_names binds ++ flat_map write_names writes
+abbrev pub block_names : Block → List Occurrence
+block_names b =
+    with_names b.with ++ flat_map test_line_names b.tests ++ flat_map bind_names b.binds ++ flat_map write_names b.writes
 
 -- ---- what a block binds
 
@@ -213,14 +214,13 @@ abbrev pub optional_with_rules : Scope → Option With → List Broken
 optional_with_rules scope names = option_map_or (with_rules scope) names []
 
 -- a variable that a block binds and that occurs in it once more
-abbrev pub block_reuses : Scope → Option With → List TestLine → List Bind → List Write → List Broken
-block_reuses scope names tests binds writes = reuses (bound_by scope binds) (block_names names tests binds writes)
+abbrev pub block_reuses : Scope → Block → List Broken
+block_reuses scope b = reuses (bound_by scope b.binds) (block_names b)
 
-abbrev pub block_rules : Declared → Scope → Option With → List TestLine → List Bind → List Write → List Broken
-block_rules header scope names tests binds writes =
-    optional_with_rules scope names ++ flat_map (test_line_rules header scope) tests
-    ++ flat_map (bind_rules header scope) binds ++ writes_rules header scope writes
-    ++ block_reuses scope names tests binds writes
+abbrev pub block_rules : Declared → Scope → Block → List Broken
+block_rules header scope b =
+    optional_with_rules scope b.with ++ flat_map (test_line_rules header scope) b.tests
+    ++ flat_map (bind_rules header scope) b.binds ++ writes_rules header scope b.writes ++ block_reuses scope b
 
 -- ---- statements
 
@@ -253,8 +253,7 @@ else_layer (Else-F.Body place body) = body
 
 abbrev pub statement_layer : Declared → Scope → Statement-F (List Broken) (List Broken) (List Broken) → List Broken
 statement_layer header scope (Statement-F.Assign variable value) = assign_rules header scope variable value
-statement_layer header scope (Statement-F.Atomic place names tests binds writes otherwise) =
-    block_rules header scope names tests binds writes ++ otherwise
+statement_layer header scope (Statement-F.Atomic place block otherwise) = block_rules header scope block ++ otherwise
 statement_layer header scope (Statement-F.Lock place node) = lock_rules header scope place node
 statement_layer header scope (Statement-F.Unlock place node) = lock_rules header scope place node
 statement_layer header scope (Statement-F.If place tests body otherwise) = tests_rules header scope tests ++ body ++ otherwise

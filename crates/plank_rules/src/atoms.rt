@@ -1,10 +1,10 @@
 //! The rules on atoms: operands alone, comparisons, and `in`.
-ghost use Rattle.std.specs.Prelude.{◌≡◌, OnOk};
+ghost use Rattle.std.specs.Prelude.{◌≡◌};
 ghost use Rattle.plank_rules.specs.Faults.{Adds};
 ghost use Rattle.plank_rules.specs.Meanings.{operand_meaning, operand_place};
 ghost use Rattle.plank_rules.specs.Atoms as spec;
 
-use crate::broken::{Broken, add_when};
+use crate::findings::Findings;
 use crate::meanings::{
     Meaning, NodeMeaning, add_misplaced, add_no_flag, add_unknown_name, add_unknown_operand,
     operand_meaning, operand_place,
@@ -12,7 +12,7 @@ use crate::meanings::{
 use crate::names::Declared;
 use crate::scopes::{Scope, Setting};
 use plank_ast::{Atom, AtomEnd, Comparison, Name, Operand};
-use plank_base::{OutOfMemory, Place, TypeKind};
+use plank_base::{Place, TypeKind};
 
 impl Meaning {
     ghost use Rattle.plank_rules.specs.Atoms as spec;
@@ -110,79 +110,63 @@ struct Side {
 }
 
 /// A second operand of another kind than the first.
-fn add_other_kind(out: &mut Vec<Broken>, first: Side, second: Side) -> Result<(), OutOfMemory>
-    ensures { OnOk result (Adds out.old.items out.new.items
-        (spec.other_kind first.meaning second.meaning second.place)) }
+fn add_other_kind(found: &mut Findings, first: Side, second: Side)
+    ensures { Adds found.old found.new
+        (spec.other_kind first.meaning second.meaning second.place) }
 {
     let is_other = !first.meaning.same_kind(second.meaning);
-    add_when(out, is_other, TypeKind::WrongKind, second.place)
+    found.add_when(is_other, TypeKind::WrongKind, second.place)
 }
 
 /// An order of anything but keys.
-fn add_no_order(
-    out: &mut Vec<Broken>,
-    comparison: Comparison,
-    first: Side,
-    second: Side,
-) -> Result<(), OutOfMemory>
-    ensures { OnOk result (Adds out.old.items out.new.items
-        (spec.no_order comparison first.meaning second.place)) }
+fn add_no_order(found: &mut Findings, comparison: Comparison, first: Side, second: Side)
+    ensures { Adds found.old found.new
+        (spec.no_order comparison first.meaning second.place) }
 {
     let is_unordered = is_order(comparison) && !first.meaning.is_key();
-    add_when(out, is_unordered, TypeKind::WrongKind, second.place)
+    found.add_when(is_unordered, TypeKind::WrongKind, second.place)
 }
 
 /// In the header, a pointer field that is compared with anything but `null`.
-fn add_no_null(
-    out: &mut Vec<Broken>,
-    setting: Setting,
-    field: Side,
-    other: Side,
-) -> Result<(), OutOfMemory>
-    ensures { OnOk result (Adds out.old.items out.new.items
-        (spec.no_null setting field.meaning field.place other.meaning)) }
+fn add_no_null(found: &mut Findings, setting: Setting, field: Side, other: Side)
+    ensures { Adds found.old found.new
+        (spec.no_null setting field.meaning field.place other.meaning) }
 {
     let is_wrong = setting.is_header()
         && field.meaning.is_pointer_field()
         && !other.meaning.is_null();
-    add_when(out, is_wrong, TypeKind::WrongKind, field.place)
+    found.add_when(is_wrong, TypeKind::WrongKind, field.place)
 }
 
 /// In a method, a test that compares two pointer fields.
-fn add_two_fields(
-    out: &mut Vec<Broken>,
-    setting: Setting,
-    first: Side,
-    second: Side,
-) -> Result<(), OutOfMemory>
-    ensures { OnOk result (Adds out.old.items out.new.items
-        (spec.two_fields setting first.meaning second.meaning second.place)) }
+fn add_two_fields(found: &mut Findings, setting: Setting, first: Side, second: Side)
+    ensures { Adds found.old found.new
+        (spec.two_fields setting first.meaning second.meaning second.place) }
 {
     let is_wrong = !setting.is_header()
         && first.meaning.is_pointer_field()
         && second.meaning.is_pointer_field();
-    add_when(out, is_wrong, TypeKind::WrongKind, second.place)
+    found.add_when(is_wrong, TypeKind::WrongKind, second.place)
 }
 
 /// What two operands break together, where neither breaks a rule by itself.
 fn add_compared(
-    out: &mut Vec<Broken>,
+    found: &mut Findings,
     setting: Setting,
     comparison: Comparison,
     first: Side,
     second: Side,
-) -> Result<(), OutOfMemory>
-    ensures { OnOk result (Adds out.old.items out.new.items
-        (spec.compared setting comparison first.meaning first.place second.meaning second.place)) }
+)
+    ensures { Adds found.old found.new
+        (spec.compared setting comparison first.meaning first.place second.meaning second.place) }
 {
     if first.meaning.is_sound() && second.meaning.is_sound() {
-        add_other_kind(out, first, second)?;
-        add_no_order(out, comparison, first, second)?;
-        add_no_null(out, setting, first, second)?;
-        add_no_null(out, setting, second, first)?;
-        add_two_fields(out, setting, first, second)?;
+        add_other_kind(found, first, second);
+        add_no_order(found, comparison, first, second);
+        add_no_null(found, setting, first, second);
+        add_no_null(found, setting, second, first);
+        add_two_fields(found, setting, first, second);
     }
-    Ok(())
 }
 
 fn side_of(header: &Declared<'_>, scope: &Scope<'_>, operand: &Operand) -> Side
@@ -197,53 +181,53 @@ fn side_of(header: &Declared<'_>, scope: &Scope<'_>, operand: &Operand) -> Side
 
 /// What an operand breaks by itself.
 fn add_operand_rules(
-    out: &mut Vec<Broken>,
+    found: &mut Findings,
     header: &Declared<'_>,
     scope: &Scope<'_>,
     operand: &Operand,
-) -> Result<(), OutOfMemory>
-    ensures { OnOk result (Adds out.old.items out.new.items
-        (spec.operand_rules header.now scope.now operand.now)) }
+)
+    ensures { Adds found.old found.new
+        (spec.operand_rules header.now scope.now operand.now) }
 {
-    add_unknown_operand(out, header, scope, operand)?;
+    add_unknown_operand(found, header, scope, operand);
     add_misplaced(
-        out,
+        found,
         operand_meaning(header, scope, operand),
         operand_place(operand),
     )
 }
 
 fn add_comparison_rules(
-    out: &mut Vec<Broken>,
+    found: &mut Findings,
     header: &Declared<'_>,
     scope: &Scope<'_>,
     first: &Operand,
     comparison: Comparison,
     second: &Operand,
-) -> Result<(), OutOfMemory>
-    ensures { OnOk result (Adds out.old.items out.new.items
-        (spec.comparison_rules header.now scope.now first.now comparison second.now)) }
+)
+    ensures { Adds found.old found.new
+        (spec.comparison_rules header.now scope.now first.now comparison second.now) }
 {
-    add_operand_rules(out, header, scope, first)?;
-    add_operand_rules(out, header, scope, second)?;
+    add_operand_rules(found, header, scope, first);
+    add_operand_rules(found, header, scope, second);
     let first = side_of(header, scope, first);
     let second = side_of(header, scope, second);
-    add_compared(out, scope.setting, comparison, first, second)
+    add_compared(found, scope.setting, comparison, first, second)
 }
 
 /// An operand alone is to be a flag of a node.
 fn add_alone_rules(
-    out: &mut Vec<Broken>,
+    found: &mut Findings,
     header: &Declared<'_>,
     scope: &Scope<'_>,
     operand: &Operand,
-) -> Result<(), OutOfMemory>
-    ensures { OnOk result (Adds out.old.items out.new.items
-        (spec.alone_rules header.now scope.now operand.now)) }
+)
+    ensures { Adds found.old found.new
+        (spec.alone_rules header.now scope.now operand.now) }
 {
-    add_unknown_operand(out, header, scope, operand)?;
+    add_unknown_operand(found, header, scope, operand);
     add_no_flag(
-        out,
+        found,
         operand_meaning(header, scope, operand),
         operand_place(operand),
     )
@@ -268,64 +252,64 @@ fn is_visit(scope: &Scope<'_>, operand: &Operand, node: NodeMeaning) -> bool
 
 /// `in` anywhere but as `j in x` in a keep.
 fn add_no_visit(
-    out: &mut Vec<Broken>,
+    found: &mut Findings,
     header: &Declared<'_>,
     scope: &Scope<'_>,
     operand: &Operand,
     place: Place,
     node: NodeMeaning,
-) -> Result<(), OutOfMemory>
-    ensures { OnOk result (Adds out.old.items out.new.items
-        (spec.no_visit header.now scope.now operand.now place node)) }
+)
+    ensures { Adds found.old found.new
+        (spec.no_visit header.now scope.now operand.now place node) }
 {
     add_misplaced(
-        out,
+        found,
         operand_meaning(header, scope, operand),
         operand_place(operand),
-    )?;
+    );
     let is_wrong = !is_visit(scope, operand, node);
-    add_when(out, is_wrong, TypeKind::WrongKind, place)
+    found.add_when(is_wrong, TypeKind::WrongKind, place)
 }
 
 fn add_in_rules(
-    out: &mut Vec<Broken>,
+    found: &mut Findings,
     header: &Declared<'_>,
     scope: &Scope<'_>,
     operand: &Operand,
     place: Place,
     node: &Name,
-) -> Result<(), OutOfMemory>
-    ensures { OnOk result (Adds out.old.items out.new.items
-        (spec.in_rules header.now scope.now operand.now place node.now)) }
+)
+    ensures { Adds found.old found.new
+        (spec.in_rules header.now scope.now operand.now place node.now) }
 {
-    add_unknown_operand(out, header, scope, operand)?;
-    add_unknown_name(out, scope, node)?;
+    add_unknown_operand(found, header, scope, operand);
+    add_unknown_name(found, scope, node);
     let meaning = operand_meaning(header, scope, operand);
     let node = scope.name_meaning(node);
     if meaning.is_unknown() || node.is_unknown_name() {
-        return Ok(());
+        return;
     }
-    add_no_visit(out, header, scope, operand, place, node)
+    add_no_visit(found, header, scope, operand, place, node)
 }
 
 pub(crate) fn add_atom_rules(
-    out: &mut Vec<Broken>,
+    found: &mut Findings,
     header: &Declared<'_>,
     scope: &Scope<'_>,
     atom: &Atom,
-) -> Result<(), OutOfMemory>
-    ensures { OnOk result (Adds out.old.items out.new.items
-        (spec.atom_rules header.now scope.now atom.now)) }
+)
+    ensures { Adds found.old found.new
+        (spec.atom_rules header.now scope.now atom.now) }
 {
     match &atom.end {
-        AtomEnd::Nothing => add_alone_rules(out, header, scope, &atom.operand),
+        AtomEnd::Nothing => add_alone_rules(found, header, scope, &atom.operand),
         AtomEnd::Compared {
             comparison,
             operand,
             ..
-        } => add_comparison_rules(out, header, scope, &atom.operand, *comparison, operand),
+        } => add_comparison_rules(found, header, scope, &atom.operand, *comparison, operand),
         AtomEnd::In { place, node } => {
-            add_in_rules(out, header, scope, &atom.operand, *place, node)
+            add_in_rules(found, header, scope, &atom.operand, *place, node)
         }
     }
 }

@@ -7,7 +7,9 @@ ghost use Rattle.plank_rules.specs.StatementRules as spec;
 use crate::names::Names;
 use crate::occurrences::{Occurrence, push};
 use crate::scopes::Scope;
-use plank_ast::{AtomEnd, Bind, Name, Operand, Reference, Test, TestLine, With, Write, Written};
+use plank_ast::{
+    AtomEnd, Bind, Block, Name, Operand, Reference, Test, TestLine, With, Write, Written,
+};
 use plank_base::OutOfMemory;
 use std::alloc::Global;
 
@@ -126,19 +128,15 @@ fn push_optional_with<'a>(
 /// The names that occur in a block, in the order of the text.
 pub(crate) fn block_names<'a>(
     alloc: Global,
-    with: &'a Option<With>,
-    tests: &'a [TestLine],
-    binds: &'a [Bind],
-    writes: &'a [Write],
+    block: &'a Block,
 ) -> Result<Vec<Occurrence<'a>>, OutOfMemory>
-    ensures { IfOk result (λ names. names.items
-        ≡ spec.block_names with.now tests.now binds.now writes.now) }
+    ensures { IfOk result (λ names. names.items ≡ spec.block_names block.now) }
 {
     let mut names = Vec::new(alloc);
-    push_optional_with(&mut names, with)?;
-    push_tests(&mut names, tests)?;
-    push_binds(&mut names, binds)?;
-    push_writes(&mut names, writes)?;
+    push_optional_with(&mut names, &block.with)?;
+    push_tests(&mut names, block.tests.as_slice())?;
+    push_binds(&mut names, block.binds.as_slice())?;
+    push_writes(&mut names, block.writes.as_slice())?;
     Ok(names)
 }
 

@@ -6,7 +6,7 @@ ghost use Rattle.plank_rules.specs.StatementRules as spec;
 
 use crate::accesses::{access_meaning, add_name_rules, add_node_rules, add_read_rules};
 use crate::block_names::{block_names, bound_by, push_with};
-use crate::broken::{Broken, add_broken};
+use crate::findings::Findings;
 use crate::meanings::{
     FieldMeaning, NodeMeaning, add_misplaced, add_unknown_field_name, add_unknown_reference,
 };
@@ -16,189 +16,154 @@ use crate::occurrences::{
     Occurrence, add_others_than_first, add_repeats, add_reuses, push, reference_place,
 };
 use crate::scopes::Scope;
-use plank_ast::{Bind, Reference, TestLine, With, Write, Written};
+use plank_ast::{Bind, Block, Reference, TestLine, With, Write, Written};
 use plank_base::{OutOfMemory, Place, TypeKind};
 use std::alloc::Global;
 
-fn add_each_node(
-    out: &mut Vec<Broken>,
-    scope: &Scope<'_>,
-    references: &[Reference],
-) -> Result<(), OutOfMemory>
-    ensures { OnOk result (Adds out.old.items out.new.items
-        (flat_map (spec.node_rules scope.now) references.now)) }
+fn add_each_node(found: &mut Findings, scope: &Scope<'_>, references: &[Reference])
+    ensures { Adds found.old found.new
+        (flat_map (spec.node_rules scope.now) references.now) }
 {
     for reference in references {
-        add_node_rules(out, scope, reference)?;
+        add_node_rules(found, scope, reference);
     }
-    Ok(())
 }
 
 fn add_with_rules(
-    out: &mut Vec<Broken>,
+    found: &mut Findings,
     alloc: Global,
     scope: &Scope<'_>,
     with: &With,
 ) -> Result<(), OutOfMemory>
-    ensures { OnOk result (Adds out.old.items out.new.items (spec.with_rules scope.now with.now)) }
+    ensures { OnOk result (Adds found.old found.new (spec.with_rules scope.now with.now)) }
 {
-    add_node_rules(out, scope, &with.first)?;
-    add_each_node(out, scope, with.others.as_slice())?;
+    add_node_rules(found, scope, &with.first);
+    add_each_node(found, scope, with.others.as_slice());
     let mut names = Vec::new(alloc);
     push_with(&mut names, with)?;
-    add_repeats(out, alloc, &names)
+    add_repeats(found, alloc, &names)
 }
 
 fn add_optional_with(
-    out: &mut Vec<Broken>,
+    found: &mut Findings,
     alloc: Global,
     scope: &Scope<'_>,
     with: &Option<With>,
 ) -> Result<(), OutOfMemory>
-    ensures { OnOk result (Adds out.old.items out.new.items
+    ensures { OnOk result (Adds found.old found.new
         (spec.optional_with_rules scope.now with.now)) }
 {
     match with {
         None => Ok(()),
-        Some(with) => add_with_rules(out, alloc, scope, with),
+        Some(with) => add_with_rules(found, alloc, scope, with),
     }
 }
 
 fn add_test_lines(
-    out: &mut Vec<Broken>,
+    found: &mut Findings,
     header: &Declared<'_>,
     scope: &Scope<'_>,
     lines: &[TestLine],
-) -> Result<(), OutOfMemory>
-    ensures { OnOk result (Adds out.old.items out.new.items
-        (flat_map (spec.test_line_rules header.now scope.now) lines.now)) }
+)
+    ensures { Adds found.old found.new
+        (flat_map (spec.test_line_rules header.now scope.now) lines.now) }
 {
     for line in lines {
-        add_test_rules(out, header, scope, &line.test)?;
+        add_test_rules(found, header, scope, &line.test);
     }
-    Ok(())
 }
 
-fn add_binds(
-    out: &mut Vec<Broken>,
-    header: &Declared<'_>,
-    scope: &Scope<'_>,
-    binds: &[Bind],
-) -> Result<(), OutOfMemory>
-    ensures { OnOk result (Adds out.old.items out.new.items
-        (flat_map (spec.bind_rules header.now scope.now) binds.now)) }
+fn add_binds(found: &mut Findings, header: &Declared<'_>, scope: &Scope<'_>, binds: &[Bind])
+    ensures { Adds found.old found.new
+        (flat_map (spec.bind_rules header.now scope.now) binds.now) }
 {
     for bind in binds {
-        add_name_rules(out, scope, &bind.variable)?;
-        add_read_rules(out, header, scope, &bind.node, &bind.field)?;
+        add_name_rules(found, scope, &bind.variable);
+        add_read_rules(found, header, scope, &bind.node, &bind.field);
     }
-    Ok(())
 }
 
 /// A node where a flag is needed.
-fn add_no_truth(out: &mut Vec<Broken>, node: NodeMeaning, place: Place) -> Result<(), OutOfMemory>
-    ensures { OnOk result (Adds out.old.items out.new.items (spec.no_truth node place)) }
+fn add_no_truth(found: &mut Findings, node: NodeMeaning, place: Place)
+    ensures { Adds found.old found.new (spec.no_truth node place) }
 {
     match node {
-        NodeMeaning::Unknown => add_broken(out, TypeKind::Unknown, place),
-        _ => add_broken(out, TypeKind::WrongKind, place),
+        NodeMeaning::Unknown => found.add(TypeKind::Unknown, place),
+        _ => found.add(TypeKind::WrongKind, place),
     }
 }
 
 /// What is written to a flag.
-fn add_flag_value(
-    out: &mut Vec<Broken>,
-    scope: &Scope<'_>,
-    value: &Written,
-) -> Result<(), OutOfMemory>
-    ensures { OnOk result (Adds out.old.items out.new.items
-        (spec.flag_value_rules scope.now value.now)) }
+fn add_flag_value(found: &mut Findings, scope: &Scope<'_>, value: &Written)
+    ensures { Adds found.old found.new
+        (spec.flag_value_rules scope.now value.now) }
 {
     match value {
-        Written::Flag(_) => Ok(()),
-        Written::Null(place) => add_broken(out, TypeKind::WrongKind, *place),
+        Written::Flag(_) => {}
+        Written::Null(place) => found.add(TypeKind::WrongKind, *place),
         Written::Node(node) => {
-            add_no_truth(out, scope.reference_meaning(node), reference_place(node))
+            add_no_truth(found, scope.reference_meaning(node), reference_place(node))
         }
     }
 }
 
 /// What is written to a pointer.
-fn add_pointer_value(
-    out: &mut Vec<Broken>,
-    scope: &Scope<'_>,
-    value: &Written,
-) -> Result<(), OutOfMemory>
-    ensures { OnOk result (Adds out.old.items out.new.items
-        (spec.pointer_value_rules scope.now value.now)) }
+fn add_pointer_value(found: &mut Findings, scope: &Scope<'_>, value: &Written)
+    ensures { Adds found.old found.new
+        (spec.pointer_value_rules scope.now value.now) }
 {
     match value {
-        Written::Flag(truth) => add_broken(out, TypeKind::WrongKind, truth.place),
-        Written::Null(_) => Ok(()),
-        Written::Node(node) => add_node_rules(out, scope, node),
+        Written::Flag(truth) => found.add(TypeKind::WrongKind, truth.place),
+        Written::Null(_) => {}
+        Written::Node(node) => add_node_rules(found, scope, node),
     }
 }
 
 /// What is written to a field that is unknown.
-fn add_any_value(
-    out: &mut Vec<Broken>,
-    scope: &Scope<'_>,
-    value: &Written,
-) -> Result<(), OutOfMemory>
-    ensures { OnOk result (Adds out.old.items out.new.items
-        (spec.any_value_rules scope.now value.now)) }
+fn add_any_value(found: &mut Findings, scope: &Scope<'_>, value: &Written)
+    ensures { Adds found.old found.new
+        (spec.any_value_rules scope.now value.now) }
 {
     match value {
-        Written::Flag(_) | Written::Null(_) => Ok(()),
-        Written::Node(node) => add_unknown_reference(out, scope, node),
+        Written::Flag(_) | Written::Null(_) => {}
+        Written::Node(node) => add_unknown_reference(found, scope, node),
     }
 }
 
-fn add_written(
-    out: &mut Vec<Broken>,
-    scope: &Scope<'_>,
-    field: FieldMeaning,
-    value: &Written,
-) -> Result<(), OutOfMemory>
-    ensures { OnOk result (Adds out.old.items out.new.items
-        (spec.written_rules scope.now field value.now)) }
+fn add_written(found: &mut Findings, scope: &Scope<'_>, field: FieldMeaning, value: &Written)
+    ensures { Adds found.old found.new
+        (spec.written_rules scope.now field value.now) }
 {
     match field {
-        FieldMeaning::Flag => add_flag_value(out, scope, value),
-        FieldMeaning::Pointer => add_pointer_value(out, scope, value),
-        FieldMeaning::Unknown | FieldMeaning::Key => add_any_value(out, scope, value),
+        FieldMeaning::Flag => add_flag_value(found, scope, value),
+        FieldMeaning::Pointer => add_pointer_value(found, scope, value),
+        FieldMeaning::Unknown | FieldMeaning::Key => add_any_value(found, scope, value),
     }
 }
 
-fn add_write(
-    out: &mut Vec<Broken>,
-    header: &Declared<'_>,
-    scope: &Scope<'_>,
-    write: &Write,
-) -> Result<(), OutOfMemory>
-    ensures { OnOk result (Adds out.old.items out.new.items
-        (spec.write_rules header.now scope.now write.now)) }
+fn add_write(found: &mut Findings, header: &Declared<'_>, scope: &Scope<'_>, write: &Write)
+    ensures { Adds found.old found.new
+        (spec.write_rules header.now scope.now write.now) }
 {
-    add_unknown_reference(out, scope, &write.node)?;
-    add_unknown_field_name(out, header, &write.field)?;
+    add_unknown_reference(found, scope, &write.node);
+    add_unknown_field_name(found, header, &write.field);
     let meaning = access_meaning(header, scope, &write.node, &write.field);
-    add_misplaced(out, meaning, reference_place(&write.node))?;
-    add_written(out, scope, header.label_meaning(&write.field), &write.value)
+    add_misplaced(found, meaning, reference_place(&write.node));
+    add_written(
+        found,
+        scope,
+        header.label_meaning(&write.field),
+        &write.value,
+    )
 }
 
-fn add_each_write(
-    out: &mut Vec<Broken>,
-    header: &Declared<'_>,
-    scope: &Scope<'_>,
-    writes: &[Write],
-) -> Result<(), OutOfMemory>
-    ensures { OnOk result (Adds out.old.items out.new.items
-        (flat_map (spec.write_rules header.now scope.now) writes.now)) }
+fn add_each_write(found: &mut Findings, header: &Declared<'_>, scope: &Scope<'_>, writes: &[Write])
+    ensures { Adds found.old found.new
+        (flat_map (spec.write_rules header.now scope.now) writes.now) }
 {
     for write in writes {
-        add_write(out, header, scope, write)?;
+        add_write(found, header, scope, write);
     }
-    Ok(())
 }
 
 /// The names that are written to, unless one is unknown or its field is.
@@ -234,55 +199,48 @@ fn written_fields<'a>(
 
 /// The writes of a block: each by itself, to one name, and to a field once.
 fn add_writes(
-    out: &mut Vec<Broken>,
+    found: &mut Findings,
     alloc: Global,
     header: &Declared<'_>,
     scope: &Scope<'_>,
     writes: &[Write],
 ) -> Result<(), OutOfMemory>
-    ensures { OnOk result (Adds out.old.items out.new.items
+    ensures { OnOk result (Adds found.old found.new
         (spec.writes_rules header.now scope.now writes.now)) }
 {
-    add_each_write(out, header, scope, writes)?;
+    add_each_write(found, header, scope, writes);
     let heads = write_heads(alloc, header, scope, writes)?;
-    add_others_than_first(out, &heads)?;
+    add_others_than_first(found, &heads);
     let fields = written_fields(alloc, writes)?;
-    add_repeats(out, alloc, &fields)
+    add_repeats(found, alloc, &fields)
 }
 
 fn add_block_reuses(
-    out: &mut Vec<Broken>,
+    found: &mut Findings,
     alloc: Global,
     scope: &Scope<'_>,
-    with: &Option<With>,
-    tests: &[TestLine],
-    binds: &[Bind],
-    writes: &[Write],
+    block: &Block,
 ) -> Result<(), OutOfMemory>
-    ensures { OnOk result (Adds out.old.items out.new.items
-        (spec.block_reuses scope.now with.now tests.now binds.now writes.now)) }
+    ensures { OnOk result (Adds found.old found.new (spec.block_reuses scope.now block.now)) }
 {
-    let bound = bound_by(alloc, scope, binds)?;
-    let names = block_names(alloc, with, tests, binds, writes)?;
-    add_reuses(out, alloc, &bound, &names)
+    let bound = bound_by(alloc, scope, block.binds.as_slice())?;
+    let names = block_names(alloc, block)?;
+    add_reuses(found, alloc, &bound, &names)
 }
 
 pub(crate) fn add_block_rules(
-    out: &mut Vec<Broken>,
+    found: &mut Findings,
     alloc: Global,
     header: &Declared<'_>,
     scope: &Scope<'_>,
-    with: &Option<With>,
-    tests: &[TestLine],
-    binds: &[Bind],
-    writes: &[Write],
+    block: &Block,
 ) -> Result<(), OutOfMemory>
-    ensures { OnOk result (Adds out.old.items out.new.items
-        (spec.block_rules header.now scope.now with.now tests.now binds.now writes.now)) }
+    ensures { OnOk result (Adds found.old found.new
+        (spec.block_rules header.now scope.now block.now)) }
 {
-    add_optional_with(out, alloc, scope, with)?;
-    add_test_lines(out, header, scope, tests)?;
-    add_binds(out, header, scope, binds)?;
-    add_writes(out, alloc, header, scope, writes)?;
-    add_block_reuses(out, alloc, scope, with, tests, binds, writes)
+    add_optional_with(found, alloc, scope, &block.with)?;
+    add_test_lines(found, header, scope, block.tests.as_slice());
+    add_binds(found, header, scope, block.binds.as_slice());
+    add_writes(found, alloc, header, scope, block.writes.as_slice())?;
+    add_block_reuses(found, alloc, scope, block)
 }

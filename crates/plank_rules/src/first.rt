@@ -1,4 +1,4 @@
-//! The first of broken rules.
+//! Which of two broken rules is first.
 ghost use Rattle.std.specs.Prelude.{◌≡◌};
 ghost use Rattle.plank_rules.specs.FirstOf as spec;
 
@@ -36,7 +36,8 @@ fn stands_before(a: Broken, b: Broken) -> bool
     less_or(a.place.line, b.place.line, column)
 }
 
-fn earlier(first: Option<Broken>, next: Broken) -> Option<Broken>
+/// The one with the least place, and at one place the first kind.
+pub(crate) fn earlier(first: Option<Broken>, next: Broken) -> Option<Broken>
     ensures { result ≡ spec.earlier first next }
 {
     match first {
@@ -44,15 +45,4 @@ fn earlier(first: Option<Broken>, next: Broken) -> Option<Broken>
         Some(first) if stands_before(next, first) => Some(next),
         Some(first) => Some(first),
     }
-}
-
-/// The one with the least place, and at one place the first kind.
-pub(crate) fn first_of(broken: &[Broken]) -> Option<Broken>
-    ensures { result ≡ spec.first_of broken.now }
-{
-    let mut first = None;
-    for next in broken {
-        first = earlier(first, *next);
-    }
-    first
 }

@@ -4,8 +4,8 @@ ghost use Rattle.std.specs.List.{flat_map};
 ghost use Rattle.plank_rules.specs.Faults.{Adds};
 ghost use Rattle.plank_rules.specs.Headers as spec;
 
-use crate::broken::{Broken, add_broken, add_when};
 use crate::conditions::add_condition_rules;
+use crate::findings::Findings;
 use crate::meanings::{FieldMeaning, add_unknown_field_name};
 use crate::names::{Declared, Names};
 use crate::occurrences::{Occurrence, add_repeats, push};
@@ -29,154 +29,127 @@ fn header_scope(alloc: Global, setting: Setting) -> Result<Scope<'static>, OutOf
     })
 }
 
-fn add_unknown_start(
-    out: &mut Vec<Broken>,
-    starts: &Names<'_>,
-    name: &Name,
-) -> Result<(), OutOfMemory>
-    ensures { OnOk result (Adds out.old.items out.new.items
-        (spec.unknown_start starts.now name.now)) }
+fn add_unknown_start(found: &mut Findings, starts: &Names<'_>, name: &Name)
+    ensures { Adds found.old found.new
+        (spec.unknown_start starts.now name.now) }
 {
     let is_unknown = !starts.contains(name.label.as_bytes());
-    add_when(out, is_unknown, TypeKind::Unknown, name.place)
+    found.add_when(is_unknown, TypeKind::Unknown, name.place)
 }
 
-fn add_second_roots(out: &mut Vec<Broken>, roots: &[RootLine]) -> Result<(), OutOfMemory>
-    ensures { OnOk result (Adds out.old.items out.new.items (flat_map spec.second_root roots.now)) }
+fn add_second_roots(found: &mut Findings, roots: &[RootLine])
+    ensures { Adds found.old found.new (flat_map spec.second_root roots.now) }
 {
     for root in roots {
-        add_broken(out, TypeKind::NotOneRoot, root.name.place)?;
+        found.add(TypeKind::NotOneRoot, root.name.place);
     }
-    Ok(())
 }
 
 /// No root, at `structure`, or more than one.
-fn add_one_root(
-    out: &mut Vec<Broken>,
-    structure: Place,
-    roots: &[RootLine],
-) -> Result<(), OutOfMemory>
-    ensures { OnOk result (Adds out.old.items out.new.items (spec.one_root structure roots.now)) }
+fn add_one_root(found: &mut Findings, structure: Place, roots: &[RootLine])
+    ensures { Adds found.old found.new (spec.one_root structure roots.now) }
 {
     match roots {
-        [] => add_broken(out, TypeKind::NotOneRoot, structure),
-        [_, rest @ ..] => add_second_roots(out, rest),
+        [] => found.add(TypeKind::NotOneRoot, structure),
+        [_, rest @ ..] => add_second_roots(found, rest),
     }
 }
 
-fn add_unknown_roots(
-    out: &mut Vec<Broken>,
-    starts: &Names<'_>,
-    roots: &[RootLine],
-) -> Result<(), OutOfMemory>
-    ensures { OnOk result (Adds out.old.items out.new.items
-        (flat_map (spec.root_rules starts.now) roots.now)) }
+fn add_unknown_roots(found: &mut Findings, starts: &Names<'_>, roots: &[RootLine])
+    ensures { Adds found.old found.new
+        (flat_map (spec.root_rules starts.now) roots.now) }
 {
     for root in roots {
-        add_unknown_start(out, starts, &root.name)?;
+        add_unknown_start(found, starts, &root.name);
     }
-    Ok(())
 }
 
 pub(crate) fn add_roots_rules(
-    out: &mut Vec<Broken>,
+    found: &mut Findings,
     starts: &Names<'_>,
     structure: Place,
     roots: &[RootLine],
-) -> Result<(), OutOfMemory>
-    ensures { OnOk result (Adds out.old.items out.new.items
-        (spec.roots_rules starts.now structure roots.now)) }
+)
+    ensures { Adds found.old found.new
+        (spec.roots_rules starts.now structure roots.now) }
 {
-    add_one_root(out, structure, roots)?;
-    add_unknown_roots(out, starts, roots)
+    add_one_root(found, structure, roots);
+    add_unknown_roots(found, starts, roots)
 }
 
 /// A start node where a flag's value is needed.
-fn add_no_start(out: &mut Vec<Broken>, starts: &Names<'_>, name: &Name) -> Result<(), OutOfMemory>
-    ensures { OnOk result (Adds out.old.items out.new.items (spec.no_start starts.now name.now)) }
+fn add_no_start(found: &mut Findings, starts: &Names<'_>, name: &Name)
+    ensures { Adds found.old found.new (spec.no_start starts.now name.now) }
 {
     if starts.contains(name.label.as_bytes()) {
-        add_broken(out, TypeKind::WrongKind, name.place)
+        found.add(TypeKind::WrongKind, name.place)
     } else {
-        add_broken(out, TypeKind::Unknown, name.place)
+        found.add(TypeKind::Unknown, name.place)
     }
 }
 
-fn add_flag_item(
-    out: &mut Vec<Broken>,
-    starts: &Names<'_>,
-    value: &StartValue,
-) -> Result<(), OutOfMemory>
-    ensures { OnOk result (Adds out.old.items out.new.items
-        (spec.flag_item_rules starts.now value.now)) }
+fn add_flag_item(found: &mut Findings, starts: &Names<'_>, value: &StartValue)
+    ensures { Adds found.old found.new
+        (spec.flag_item_rules starts.now value.now) }
 {
     match value {
-        StartValue::Flag(_) => Ok(()),
-        StartValue::Null(place) => add_broken(out, TypeKind::WrongKind, *place),
-        StartValue::Node(name) => add_no_start(out, starts, name),
+        StartValue::Flag(_) => {}
+        StartValue::Null(place) => found.add(TypeKind::WrongKind, *place),
+        StartValue::Node(name) => add_no_start(found, starts, name),
     }
 }
 
-fn add_pointer_item(
-    out: &mut Vec<Broken>,
-    starts: &Names<'_>,
-    value: &StartValue,
-) -> Result<(), OutOfMemory>
-    ensures { OnOk result (Adds out.old.items out.new.items
-        (spec.pointer_item_rules starts.now value.now)) }
+fn add_pointer_item(found: &mut Findings, starts: &Names<'_>, value: &StartValue)
+    ensures { Adds found.old found.new
+        (spec.pointer_item_rules starts.now value.now) }
 {
     match value {
-        StartValue::Flag(truth) => add_broken(out, TypeKind::WrongKind, truth.place),
-        StartValue::Null(_) => Ok(()),
-        StartValue::Node(name) => add_unknown_start(out, starts, name),
+        StartValue::Flag(truth) => found.add(TypeKind::WrongKind, truth.place),
+        StartValue::Null(_) => {}
+        StartValue::Node(name) => add_unknown_start(found, starts, name),
     }
 }
 
 /// The value of a field that is unknown.
-fn add_any_item(
-    out: &mut Vec<Broken>,
-    starts: &Names<'_>,
-    value: &StartValue,
-) -> Result<(), OutOfMemory>
-    ensures { OnOk result (Adds out.old.items out.new.items
-        (spec.any_item_rules starts.now value.now)) }
+fn add_any_item(found: &mut Findings, starts: &Names<'_>, value: &StartValue)
+    ensures { Adds found.old found.new
+        (spec.any_item_rules starts.now value.now) }
 {
     match value {
-        StartValue::Flag(_) | StartValue::Null(_) => Ok(()),
-        StartValue::Node(name) => add_unknown_start(out, starts, name),
+        StartValue::Flag(_) | StartValue::Null(_) => {}
+        StartValue::Node(name) => add_unknown_start(found, starts, name),
     }
 }
 
 fn add_value_rules(
-    out: &mut Vec<Broken>,
+    found: &mut Findings,
     starts: &Names<'_>,
     field: FieldMeaning,
     value: &StartValue,
-) -> Result<(), OutOfMemory>
-    ensures { OnOk result (Adds out.old.items out.new.items
-        (spec.value_rules starts.now field value.now)) }
+)
+    ensures { Adds found.old found.new
+        (spec.value_rules starts.now field value.now) }
 {
     match field {
-        FieldMeaning::Flag => add_flag_item(out, starts, value),
-        FieldMeaning::Pointer => add_pointer_item(out, starts, value),
-        FieldMeaning::Unknown | FieldMeaning::Key => add_any_item(out, starts, value),
+        FieldMeaning::Flag => add_flag_item(found, starts, value),
+        FieldMeaning::Pointer => add_pointer_item(found, starts, value),
+        FieldMeaning::Unknown | FieldMeaning::Key => add_any_item(found, starts, value),
     }
 }
 
-fn add_items(
-    out: &mut Vec<Broken>,
-    header: &Declared<'_>,
-    starts: &Names<'_>,
-    items: &[StartItem],
-) -> Result<(), OutOfMemory>
-    ensures { OnOk result (Adds out.old.items out.new.items
-        (flat_map (spec.item_rules header.now starts.now) items.now)) }
+fn add_items(found: &mut Findings, header: &Declared<'_>, starts: &Names<'_>, items: &[StartItem])
+    ensures { Adds found.old found.new
+        (flat_map (spec.item_rules header.now starts.now) items.now) }
 {
     for item in items {
-        add_unknown_field_name(out, header, &item.field)?;
-        add_value_rules(out, starts, header.label_meaning(&item.field), &item.value)?;
+        add_unknown_field_name(found, header, &item.field);
+        add_value_rules(
+            found,
+            starts,
+            header.label_meaning(&item.field),
+            &item.value,
+        );
     }
-    Ok(())
 }
 
 fn item_fields<'a>(
@@ -193,49 +166,44 @@ fn item_fields<'a>(
 }
 
 pub(crate) fn add_start_rules(
-    out: &mut Vec<Broken>,
+    found: &mut Findings,
     alloc: Global,
     header: &Declared<'_>,
     starts: &Names<'_>,
     line: &StartLine,
 ) -> Result<(), OutOfMemory>
-    ensures { OnOk result (Adds out.old.items out.new.items
+    ensures { OnOk result (Adds found.old found.new
         (spec.start_rules header.now starts.now line.now)) }
 {
-    add_items(out, header, starts, line.items.as_slice())?;
+    add_items(found, header, starts, line.items.as_slice());
     let fields = item_fields(alloc, line.items.as_slice())?;
-    add_repeats(out, alloc, &fields)
+    add_repeats(found, alloc, &fields)
 }
 
 /// A name where a pointer is needed.
-fn add_pointer_rules(
-    out: &mut Vec<Broken>,
-    field: FieldMeaning,
-    place: Place,
-) -> Result<(), OutOfMemory>
-    ensures { OnOk result (Adds out.old.items out.new.items (spec.pointer_rules field place)) }
+fn add_pointer_rules(found: &mut Findings, field: FieldMeaning, place: Place)
+    ensures { Adds found.old found.new (spec.pointer_rules field place) }
 {
     match field {
-        FieldMeaning::Unknown => add_broken(out, TypeKind::Unknown, place),
-        FieldMeaning::Pointer => Ok(()),
-        FieldMeaning::Flag | FieldMeaning::Key => add_broken(out, TypeKind::WrongKind, place),
+        FieldMeaning::Unknown => found.add(TypeKind::Unknown, place),
+        FieldMeaning::Pointer => {}
+        FieldMeaning::Flag | FieldMeaning::Key => found.add(TypeKind::WrongKind, place),
     }
 }
 
 fn add_each_edge(
-    out: &mut Vec<Broken>,
+    found: &mut Findings,
     header: &Declared<'_>,
     scope: &Scope<'_>,
     edges: &[NamedCondition],
-) -> Result<(), OutOfMemory>
-    ensures { OnOk result (Adds out.old.items out.new.items
-        (flat_map (spec.edge_rules header.now scope.now) edges.now)) }
+)
+    ensures { Adds found.old found.new
+        (flat_map (spec.edge_rules header.now scope.now) edges.now) }
 {
     for edge in edges {
-        add_pointer_rules(out, header.label_meaning(&edge.name), edge.name.place)?;
-        add_condition_rules(out, header, scope, &edge.condition)?;
+        add_pointer_rules(found, header.label_meaning(&edge.name), edge.name.place);
+        add_condition_rules(found, header, scope, &edge.condition);
     }
-    Ok(())
 }
 
 fn named_conditions<'a>(
@@ -252,87 +220,88 @@ fn named_conditions<'a>(
 }
 
 pub(crate) fn add_edges_rules(
-    out: &mut Vec<Broken>,
+    found: &mut Findings,
     alloc: Global,
     header: &Declared<'_>,
     edges: &[NamedCondition],
 ) -> Result<(), OutOfMemory>
-    ensures { OnOk result (Adds out.old.items out.new.items
+    ensures { OnOk result (Adds found.old found.new
         (spec.edges_rules header.now edges.now)) }
 {
     let scope = header_scope(alloc, Setting::Edge)?;
-    add_each_edge(out, header, &scope, edges)?;
+    add_each_edge(found, header, &scope, edges);
     let names = named_conditions(alloc, edges)?;
-    add_repeats(out, alloc, &names)
+    add_repeats(found, alloc, &names)
 }
 
 pub(crate) fn add_holds_rules(
-    out: &mut Vec<Broken>,
+    found: &mut Findings,
     alloc: Global,
     header: &Declared<'_>,
     line: &ConditionLine,
 ) -> Result<(), OutOfMemory>
-    ensures { OnOk result (Adds out.old.items out.new.items
+    ensures { OnOk result (Adds found.old found.new
         (spec.holds_rules header.now line.now)) }
 {
     let scope = header_scope(alloc, Setting::Holds)?;
-    add_condition_rules(out, header, &scope, &line.condition)
-}
-
-fn add_each_keep(
-    out: &mut Vec<Broken>,
-    header: &Declared<'_>,
-    scope: &Scope<'_>,
-    keeps: &[NamedCondition],
-) -> Result<(), OutOfMemory>
-    ensures { OnOk result (Adds out.old.items out.new.items
-        (flat_map (spec.keep_rules header.now scope.now) keeps.now)) }
-{
-    for keep in keeps {
-        add_condition_rules(out, header, scope, &keep.condition)?;
-    }
+    add_condition_rules(found, header, &scope, &line.condition);
     Ok(())
 }
 
+fn add_each_keep(
+    found: &mut Findings,
+    header: &Declared<'_>,
+    scope: &Scope<'_>,
+    keeps: &[NamedCondition],
+)
+    ensures { Adds found.old found.new
+        (flat_map (spec.keep_rules header.now scope.now) keeps.now) }
+{
+    for keep in keeps {
+        add_condition_rules(found, header, scope, &keep.condition);
+    }
+}
+
 pub(crate) fn add_keeps_rules(
-    out: &mut Vec<Broken>,
+    found: &mut Findings,
     alloc: Global,
     header: &Declared<'_>,
     keeps: &[NamedCondition],
 ) -> Result<(), OutOfMemory>
-    ensures { OnOk result (Adds out.old.items out.new.items
+    ensures { OnOk result (Adds found.old found.new
         (spec.keeps_rules header.now keeps.now)) }
 {
     let scope = header_scope(alloc, Setting::Keep)?;
-    add_each_keep(out, header, &scope, keeps)?;
+    add_each_keep(found, header, &scope, keeps);
     let names = named_conditions(alloc, keeps)?;
-    add_repeats(out, alloc, &names)
+    add_repeats(found, alloc, &names)
 }
 
 fn add_freeze_rules(
-    out: &mut Vec<Broken>,
+    found: &mut Findings,
     alloc: Global,
     header: &Declared<'_>,
     line: &ConditionLine,
 ) -> Result<(), OutOfMemory>
-    ensures { OnOk result (Adds out.old.items out.new.items
+    ensures { OnOk result (Adds found.old found.new
         (spec.freeze_rules header.now line.now)) }
 {
     let scope = header_scope(alloc, Setting::Freeze)?;
-    add_condition_rules(out, header, &scope, &line.condition)
+    add_condition_rules(found, header, &scope, &line.condition);
+    Ok(())
 }
 
 pub(crate) fn add_optional_freeze(
-    out: &mut Vec<Broken>,
+    found: &mut Findings,
     alloc: Global,
     header: &Declared<'_>,
     freeze: &Option<ConditionLine>,
 ) -> Result<(), OutOfMemory>
-    ensures { OnOk result (Adds out.old.items out.new.items
+    ensures { OnOk result (Adds found.old found.new
         (spec.optional_freeze_rules header.now freeze.now)) }
 {
     match freeze {
         None => Ok(()),
-        Some(line) => add_freeze_rules(out, alloc, header, line),
+        Some(line) => add_freeze_rules(found, alloc, header, line),
     }
 }

@@ -1,51 +1,50 @@
 //! The rules on loops: what leads out of one stands in one, and none stands still.
-ghost use Rattle.std.specs.Prelude.{◌≡◌, OnOk};
+ghost use Rattle.std.specs.Prelude.{◌≡◌};
 ghost use Rattle.plank_rules.specs.Faults.{Adds};
 ghost use Rattle.plank_rules.specs.Loops as spec;
 
-use crate::broken::{Broken, add_broken, add_when};
+use crate::findings::Findings;
 use plank_ast::{Body, Else, Statement};
-use plank_base::{OutOfMemory, TypeKind};
+use plank_base::TypeKind;
 
 #[cycle(stray)]
-fn add_body_stray(out: &mut Vec<Broken>, body: &Body) -> Result<(), OutOfMemory>
-    ensures { OnOk result (Adds out.old.items out.new.items (spec.body_stray body.now)) }
+fn add_body_stray(found: &mut Findings, body: &Body)
+    ensures { Adds found.old found.new (spec.body_stray body.now) }
 {
     for statement in body.statements.as_slice() {
-        add_stray(out, statement)?;
+        add_stray(found, statement);
     }
-    Ok(())
 }
 
 #[cycle(stray)]
-fn add_else_stray(out: &mut Vec<Broken>, otherwise: &Else) -> Result<(), OutOfMemory>
-    ensures { OnOk result (Adds out.old.items out.new.items (spec.else_stray otherwise.now)) }
+fn add_else_stray(found: &mut Findings, otherwise: &Else)
+    ensures { Adds found.old found.new (spec.else_stray otherwise.now) }
 {
     match otherwise {
-        Else::Nothing => Ok(()),
-        Else::Body { body, .. } => add_body_stray(out, body),
+        Else::Nothing => {}
+        Else::Body { body, .. } => add_body_stray(found, body),
     }
 }
 
 /// `break` and `continue` outside a loop.
 #[cycle(stray)]
-pub(crate) fn add_stray(out: &mut Vec<Broken>, statement: &Statement) -> Result<(), OutOfMemory>
-    ensures { OnOk result (Adds out.old.items out.new.items (spec.stray statement.now)) }
+pub(crate) fn add_stray(found: &mut Findings, statement: &Statement)
+    ensures { Adds found.old found.new (spec.stray statement.now) }
 {
     match statement {
         Statement::Break(place) | Statement::Continue(place) => {
-            add_broken(out, TypeKind::WrongKind, *place)
+            found.add(TypeKind::WrongKind, *place)
         }
-        Statement::Atomic { otherwise, .. } => add_else_stray(out, otherwise),
+        Statement::Atomic { otherwise, .. } => add_else_stray(found, otherwise),
         Statement::If {
             body,
             otherwise,
             ..
         } => {
-            add_body_stray(out, body)?;
-            add_else_stray(out, otherwise)
+            add_body_stray(found, body);
+            add_else_stray(found, otherwise)
         }
-        _ => Ok(()),
+        _ => {}
     }
 }
 
@@ -66,45 +65,44 @@ fn is_still(body: &Body) -> bool
 }
 
 #[cycle(still)]
-fn add_still_in_body(out: &mut Vec<Broken>, body: &Body) -> Result<(), OutOfMemory>
-    ensures { OnOk result (Adds out.old.items out.new.items (spec.body_still body.now).loops) }
+fn add_still_in_body(found: &mut Findings, body: &Body)
+    ensures { Adds found.old found.new (spec.body_still body.now).loops }
 {
     for statement in body.statements.as_slice() {
-        add_still(out, statement)?;
+        add_still(found, statement);
     }
-    Ok(())
 }
 
 #[cycle(still)]
-fn add_still_in_else(out: &mut Vec<Broken>, otherwise: &Else) -> Result<(), OutOfMemory>
-    ensures { OnOk result (Adds out.old.items out.new.items (spec.else_still otherwise.now)) }
+fn add_still_in_else(found: &mut Findings, otherwise: &Else)
+    ensures { Adds found.old found.new (spec.else_still otherwise.now) }
 {
     match otherwise {
-        Else::Nothing => Ok(()),
-        Else::Body { body, .. } => add_still_in_body(out, body),
+        Else::Nothing => {}
+        Else::Body { body, .. } => add_still_in_body(found, body),
     }
 }
 
 /// A `loop` whose body is empty or begins with `break` or `continue`.
 #[cycle(still)]
-pub(crate) fn add_still(out: &mut Vec<Broken>, statement: &Statement) -> Result<(), OutOfMemory>
-    ensures { OnOk result (Adds out.old.items out.new.items (spec.still statement.now).loops) }
+pub(crate) fn add_still(found: &mut Findings, statement: &Statement)
+    ensures { Adds found.old found.new (spec.still statement.now).loops }
 {
     match statement {
-        Statement::Atomic { otherwise, .. } => add_still_in_else(out, otherwise),
+        Statement::Atomic { otherwise, .. } => add_still_in_else(found, otherwise),
         Statement::If {
             body,
             otherwise,
             ..
         } => {
-            add_still_in_body(out, body)?;
-            add_still_in_else(out, otherwise)
+            add_still_in_body(found, body);
+            add_still_in_else(found, otherwise)
         }
-        Statement::While { body, .. } => add_still_in_body(out, body),
+        Statement::While { body, .. } => add_still_in_body(found, body),
         Statement::Loop { place, body } => {
-            add_when(out, is_still(body), TypeKind::WrongKind, *place)?;
-            add_still_in_body(out, body)
+            found.add_when(is_still(body), TypeKind::WrongKind, *place);
+            add_still_in_body(found, body)
         }
-        _ => Ok(()),
+        _ => {}
     }
 }

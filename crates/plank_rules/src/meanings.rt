@@ -1,18 +1,18 @@
 //! What names and operands mean where they stand.
-ghost use Rattle.std.specs.Prelude.{◌≡◌, OnOk};
+ghost use Rattle.std.specs.Prelude.{◌≡◌};
 ghost use Rattle.plank_rules.specs.Faults.{Adds};
 ghost use Rattle.plank_rules.specs.Meanings as spec;
 
-use crate::broken::{Broken, add_broken};
+use crate::findings::Findings;
 use crate::names::Declared;
 use crate::occurrences::reference_place;
 use crate::scopes::{Scope, Setting};
 use plank_ast::{Field, Name, Operand, Reference};
-use plank_base::{OutOfMemory, Place, TypeKind};
+use plank_base::{Place, TypeKind};
 
 /// What a name means where a node may stand.
 #[derive(Clone, Copy, Debug, PartialEq, Eq)]
-pub(crate) enum NodeMeaning {
+pub enum NodeMeaning {
     Unknown,
     Key,
     Node,
@@ -21,7 +21,7 @@ pub(crate) enum NodeMeaning {
 
 /// What a name means after a dot.
 #[derive(Clone, Copy, Debug, PartialEq, Eq)]
-pub(crate) enum FieldMeaning {
+pub enum FieldMeaning {
     Unknown,
     Key,
     Flag,
@@ -30,7 +30,7 @@ pub(crate) enum FieldMeaning {
 
 /// What an operand means.
 #[derive(Clone, Copy, Debug, PartialEq, Eq)]
-pub(crate) enum Meaning {
+pub enum Meaning {
     /// A name in it is unknown.
     Unknown,
     /// It may stand nowhere.
@@ -201,158 +201,118 @@ pub(crate) fn operand_place(operand: &Operand) -> Place
     }
 }
 
-fn add_unknown_node(
-    out: &mut Vec<Broken>,
-    node: NodeMeaning,
-    place: Place,
-) -> Result<(), OutOfMemory>
-    ensures { OnOk result (Adds out.old.items out.new.items (spec.unknown_node node place)) }
+fn add_unknown_node(found: &mut Findings, node: NodeMeaning, place: Place)
+    ensures { Adds found.old found.new (spec.unknown_node node place) }
 {
     match node {
-        NodeMeaning::Unknown => add_broken(out, TypeKind::Unknown, place),
-        NodeMeaning::Key | NodeMeaning::Node | NodeMeaning::Root => Ok(()),
+        NodeMeaning::Unknown => found.add(TypeKind::Unknown, place),
+        NodeMeaning::Key | NodeMeaning::Node | NodeMeaning::Root => {}
     }
 }
 
-fn add_unknown_label(
-    out: &mut Vec<Broken>,
-    field: FieldMeaning,
-    place: Place,
-) -> Result<(), OutOfMemory>
-    ensures { OnOk result (Adds out.old.items out.new.items (spec.unknown_label field place)) }
+fn add_unknown_label(found: &mut Findings, field: FieldMeaning, place: Place)
+    ensures { Adds found.old found.new (spec.unknown_label field place) }
 {
     match field {
-        FieldMeaning::Unknown => add_broken(out, TypeKind::Unknown, place),
-        FieldMeaning::Key | FieldMeaning::Flag | FieldMeaning::Pointer => Ok(()),
+        FieldMeaning::Unknown => found.add(TypeKind::Unknown, place),
+        FieldMeaning::Key | FieldMeaning::Flag | FieldMeaning::Pointer => {}
     }
 }
 
-pub(crate) fn add_unknown_name(
-    out: &mut Vec<Broken>,
-    scope: &Scope<'_>,
-    name: &Name,
-) -> Result<(), OutOfMemory>
-    ensures { OnOk result (Adds out.old.items out.new.items
-        (spec.unknown_name scope.now name.now)) }
+pub(crate) fn add_unknown_name(found: &mut Findings, scope: &Scope<'_>, name: &Name)
+    ensures { Adds found.old found.new
+        (spec.unknown_name scope.now name.now) }
 {
-    add_unknown_node(out, scope.name_meaning(name), name.place)
+    add_unknown_node(found, scope.name_meaning(name), name.place)
 }
 
-pub(crate) fn add_unknown_reference(
-    out: &mut Vec<Broken>,
-    scope: &Scope<'_>,
-    reference: &Reference,
-) -> Result<(), OutOfMemory>
-    ensures { OnOk result (Adds out.old.items out.new.items
-        (spec.unknown_reference scope.now reference.now)) }
+pub(crate) fn add_unknown_reference(found: &mut Findings, scope: &Scope<'_>, reference: &Reference)
+    ensures { Adds found.old found.new
+        (spec.unknown_reference scope.now reference.now) }
 {
     add_unknown_node(
-        out,
+        found,
         scope.reference_meaning(reference),
         reference_place(reference),
     )
 }
 
-pub(crate) fn add_unknown_field_name(
-    out: &mut Vec<Broken>,
-    header: &Declared<'_>,
-    name: &Name,
-) -> Result<(), OutOfMemory>
-    ensures { OnOk result (Adds out.old.items out.new.items
-        (spec.unknown_field_name header.now name.now)) }
+pub(crate) fn add_unknown_field_name(found: &mut Findings, header: &Declared<'_>, name: &Name)
+    ensures { Adds found.old found.new
+        (spec.unknown_field_name header.now name.now) }
 {
-    add_unknown_label(out, header.label_meaning(name), name.place)
+    add_unknown_label(found, header.label_meaning(name), name.place)
 }
 
-fn add_unknown_field(
-    out: &mut Vec<Broken>,
-    header: &Declared<'_>,
-    field: &Field,
-) -> Result<(), OutOfMemory>
-    ensures { OnOk result (Adds out.old.items out.new.items
-        (spec.unknown_field header.now field.now)) }
+fn add_unknown_field(found: &mut Findings, header: &Declared<'_>, field: &Field)
+    ensures { Adds found.old found.new
+        (spec.unknown_field header.now field.now) }
 {
     match field {
-        Field::Name(name) => add_unknown_field_name(out, header, name),
-        Field::Key(_) => Ok(()),
+        Field::Name(name) => add_unknown_field_name(found, header, name),
+        Field::Key(_) => {}
     }
 }
 
 pub(crate) fn add_unknown_operand(
-    out: &mut Vec<Broken>,
+    found: &mut Findings,
     header: &Declared<'_>,
     scope: &Scope<'_>,
     operand: &Operand,
-) -> Result<(), OutOfMemory>
-    ensures { OnOk result (Adds out.old.items out.new.items
-        (spec.unknown_operand header.now scope.now operand.now)) }
+)
+    ensures { Adds found.old found.new
+        (spec.unknown_operand header.now scope.now operand.now) }
 {
     match operand {
-        Operand::Node { node, field: None } => add_unknown_reference(out, scope, node),
+        Operand::Node { node, field: None } => add_unknown_reference(found, scope, node),
         Operand::Node {
             node,
             field: Some(field),
         } => {
-            add_unknown_reference(out, scope, node)?;
-            add_unknown_field(out, header, field)
+            add_unknown_reference(found, scope, node);
+            add_unknown_field(found, header, field)
         }
-        Operand::Min(_) | Operand::Max(_) | Operand::Null(_) => Ok(()),
+        Operand::Min(_) | Operand::Max(_) | Operand::Null(_) => {}
     }
 }
 
 /// An operand that is wrong wherever it is compared.
-pub(crate) fn add_misplaced(
-    out: &mut Vec<Broken>,
-    meaning: Meaning,
-    place: Place,
-) -> Result<(), OutOfMemory>
-    ensures { OnOk result (Adds out.old.items out.new.items (spec.misplaced meaning place)) }
+pub(crate) fn add_misplaced(found: &mut Findings, meaning: Meaning, place: Place)
+    ensures { Adds found.old found.new (spec.misplaced meaning place) }
 {
     match meaning {
-        Meaning::Wrong => add_broken(out, TypeKind::WrongKind, place),
-        _ => Ok(()),
+        Meaning::Wrong => found.add(TypeKind::WrongKind, place),
+        _ => {}
     }
 }
 
 /// Something else than a flag of a node, where that is needed.
-pub(crate) fn add_no_flag(
-    out: &mut Vec<Broken>,
-    meaning: Meaning,
-    place: Place,
-) -> Result<(), OutOfMemory>
-    ensures { OnOk result (Adds out.old.items out.new.items (spec.no_flag meaning place)) }
+pub(crate) fn add_no_flag(found: &mut Findings, meaning: Meaning, place: Place)
+    ensures { Adds found.old found.new (spec.no_flag meaning place) }
 {
     match meaning {
-        Meaning::Unknown | Meaning::Flag => Ok(()),
-        _ => add_broken(out, TypeKind::WrongKind, place),
+        Meaning::Unknown | Meaning::Flag => {}
+        _ => found.add(TypeKind::WrongKind, place),
     }
 }
 
 /// Something else than a pointer of a node, where that is needed.
-pub(crate) fn add_no_pointer(
-    out: &mut Vec<Broken>,
-    meaning: Meaning,
-    place: Place,
-) -> Result<(), OutOfMemory>
-    ensures { OnOk result (Adds out.old.items out.new.items (spec.no_pointer meaning place)) }
+pub(crate) fn add_no_pointer(found: &mut Findings, meaning: Meaning, place: Place)
+    ensures { Adds found.old found.new (spec.no_pointer meaning place) }
 {
     match meaning {
-        Meaning::Unknown | Meaning::Pointer => Ok(()),
-        _ => add_broken(out, TypeKind::WrongKind, place),
+        Meaning::Unknown | Meaning::Pointer => {}
+        _ => found.add(TypeKind::WrongKind, place),
     }
 }
 
 /// Something else than a node, where one is needed.
-pub(crate) fn add_no_node(
-    out: &mut Vec<Broken>,
-    node: NodeMeaning,
-    place: Place,
-) -> Result<(), OutOfMemory>
-    ensures { OnOk result (Adds out.old.items out.new.items (spec.no_node node place)) }
+pub(crate) fn add_no_node(found: &mut Findings, node: NodeMeaning, place: Place)
+    ensures { Adds found.old found.new (spec.no_node node place) }
 {
     match node {
-        NodeMeaning::Unknown => add_broken(out, TypeKind::Unknown, place),
-        NodeMeaning::Key => add_broken(out, TypeKind::WrongKind, place),
-        NodeMeaning::Node | NodeMeaning::Root => Ok(()),
+        NodeMeaning::Unknown => found.add(TypeKind::Unknown, place),
+        NodeMeaning::Key => found.add(TypeKind::WrongKind, place),
+        NodeMeaning::Node | NodeMeaning::Root => {}
     }
 }

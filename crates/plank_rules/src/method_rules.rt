@@ -7,7 +7,7 @@ ghost use Rattle.plank_rules.specs.Occurrences.{occurrence};
 ghost use Rattle.plank_rules.specs.StatementRules.{statement_rules};
 ghost use Rattle.plank_rules.specs.MethodRules as spec;
 
-use crate::broken::{Broken, add_when};
+use crate::findings::Findings;
 use crate::flow::can_complete;
 use crate::loops::{add_still, add_stray};
 use crate::names::{Declared, Names};
@@ -39,11 +39,11 @@ fn kind_name<'a>(name: &'a Name, kind: &'a Option<Name>) -> &'a Name
 }
 
 #[tactic(auto, unfolding(crate::specs::MethodRules::kind_rules))]
-fn add_kind_rules(out: &mut Vec<Broken>, kind: &Name) -> Result<(), OutOfMemory>
-    ensures { OnOk result (Adds out.old.items out.new.items (spec.kind_rules kind.now)) }
+fn add_kind_rules(found: &mut Findings, kind: &Name)
+    ensures { Adds found.old found.new (spec.kind_rules kind.now) }
 {
     let is_unknown = !is_kind(kind.label.as_bytes());
-    add_when(out, is_unknown, TypeKind::Unknown, kind.place)
+    found.add_when(is_unknown, TypeKind::Unknown, kind.place)
 }
 
 fn push_names<'a>(variables: &mut Vec<Occurrence<'a>>, names: &'a [Name]) -> Result<(), OutOfMemory>
@@ -74,16 +74,16 @@ fn push_variables<'a>(
 /// A name that is declared twice in a method.
 #[tactic(auto, unfolding(crate::specs::MethodRules::local_repeats))]
 fn add_local_repeats(
-    out: &mut Vec<Broken>,
+    found: &mut Findings,
     alloc: Global,
     method: &Method,
 ) -> Result<(), OutOfMemory>
-    ensures { OnOk result (Adds out.old.items out.new.items (spec.local_repeats method.now)) }
+    ensures { OnOk result (Adds found.old found.new (spec.local_repeats method.now)) }
 {
     let mut locals = Vec::new(alloc);
     push(&mut locals, Occurrence::of_name(&method.argument))?;
     push_variables(&mut locals, &method.variables)?;
-    add_repeats(out, alloc, &locals)
+    add_repeats(found, alloc, &locals)
 }
 
 /// What names mean in a method.
@@ -104,84 +104,83 @@ fn method_scope(alloc: Global, method: &Method) -> Result<Scope<'_>, OutOfMemory
 }
 
 fn add_each_statement(
-    out: &mut Vec<Broken>,
+    found: &mut Findings,
     alloc: Global,
     header: &Declared<'_>,
     scope: &Scope<'_>,
     statements: &[Statement],
 ) -> Result<(), OutOfMemory>
-    ensures { OnOk result (Adds out.old.items out.new.items
+    ensures { OnOk result (Adds found.old found.new
         (flat_map (statement_rules header.now scope.now) statements.now)) }
 {
     for statement in statements {
-        add_statement_rules(out, alloc, header, scope, statement)?;
+        add_statement_rules(found, alloc, header, scope, statement)?;
     }
     Ok(())
 }
 
-fn add_each_stray(out: &mut Vec<Broken>, statements: &[Statement]) -> Result<(), OutOfMemory>
-    ensures { OnOk result (Adds out.old.items out.new.items (flat_map stray statements.now)) }
+fn add_each_stray(found: &mut Findings, statements: &[Statement])
+    ensures { Adds found.old found.new (flat_map stray statements.now) }
 {
     for statement in statements {
-        add_stray(out, statement)?;
+        add_stray(found, statement);
     }
-    Ok(())
 }
 
-fn add_each_still(out: &mut Vec<Broken>, statements: &[Statement]) -> Result<(), OutOfMemory>
-    ensures { OnOk result (Adds out.old.items out.new.items
-        (flat_map (λ s. (still s).loops) statements.now)) }
+fn add_each_still(found: &mut Findings, statements: &[Statement])
+    ensures { Adds found.old found.new
+        (flat_map (λ s. (still s).loops) statements.now) }
 {
     for statement in statements {
-        add_still(out, statement)?;
+        add_still(found, statement);
     }
-    Ok(())
 }
 
 #[tactic(auto, unfolding(crate::specs::MethodRules::statements_rules))]
 fn add_statements_rules(
-    out: &mut Vec<Broken>,
+    found: &mut Findings,
     alloc: Global,
     header: &Declared<'_>,
     method: &Method,
 ) -> Result<(), OutOfMemory>
-    ensures { OnOk result (Adds out.old.items out.new.items
+    ensures { OnOk result (Adds found.old found.new
         (spec.statements_rules header.now method.now)) }
 {
     let scope = method_scope(alloc, method)?;
-    add_each_statement(out, alloc, header, &scope, method.statements.as_slice())
+    add_each_statement(found, alloc, header, &scope, method.statements.as_slice())
 }
 
 #[tactic(auto, unfolding(crate::specs::MethodRules::loop_rules))]
-fn add_loop_rules(out: &mut Vec<Broken>, method: &Method) -> Result<(), OutOfMemory>
-    ensures { OnOk result (Adds out.old.items out.new.items (spec.loop_rules method.now)) }
+fn add_loop_rules(found: &mut Findings, method: &Method)
+    ensures { Adds found.old found.new (spec.loop_rules method.now) }
 {
-    add_each_stray(out, method.statements.as_slice())?;
-    add_each_still(out, method.statements.as_slice())
+    add_each_stray(found, method.statements.as_slice());
+    add_each_still(found, method.statements.as_slice())
 }
 
 /// A body that can be completed.
 #[tactic(auto, unfolding(crate::specs::MethodRules::return_rules))]
-fn add_return_rules(out: &mut Vec<Broken>, method: &Method) -> Result<(), OutOfMemory>
-    ensures { OnOk result (Adds out.old.items out.new.items (spec.return_rules method.now)) }
+fn add_return_rules(found: &mut Findings, method: &Method)
+    ensures { Adds found.old found.new (spec.return_rules method.now) }
 {
     let completes = can_complete(method.statements.as_slice());
-    add_when(out, completes, TypeKind::NoReturn, method.end)
+    found.add_when(completes, TypeKind::NoReturn, method.end)
 }
 
 #[tactic(auto, unfolding(crate::specs::MethodRules::method_rules))]
 pub(crate) fn add_method_rules(
-    out: &mut Vec<Broken>,
+    found: &mut Findings,
     alloc: Global,
     header: &Declared<'_>,
     method: &Method,
 ) -> Result<(), OutOfMemory>
-    ensures { OnOk result (Adds out.old.items out.new.items
+    ensures { OnOk result (Adds found.old found.new
         (spec.method_rules header.now method.now)) }
 {
-    add_kind_rules(out, kind_name(&method.name, &method.kind))?;
-    add_local_repeats(out, alloc, method)?;
-    add_statements_rules(out, alloc, header, method)?;
-    add_loop_rules(out, method)?;
-    add_return_rules(out, method)
+    add_kind_rules(found, kind_name(&method.name, &method.kind));
+    add_local_repeats(found, alloc, method)?;
+    add_statements_rules(found, alloc, header, method)?;
+    add_loop_rules(found, method);
+    add_return_rules(found, method);
+    Ok(())
 }

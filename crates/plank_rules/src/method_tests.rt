@@ -6,7 +6,7 @@ ghost use Rattle.plank_rules.specs.StatementRules as spec;
 
 use crate::accesses::access_meaning;
 use crate::atoms::add_atom_rules;
-use crate::broken::Broken;
+use crate::findings::Findings;
 use crate::meanings::{
     Meaning, add_no_flag, add_unknown_field_name, add_unknown_reference, dotted,
 };
@@ -18,33 +18,33 @@ use plank_base::OutOfMemory;
 use std::alloc::Global;
 
 fn add_negation_rules(
-    out: &mut Vec<Broken>,
+    found: &mut Findings,
     header: &Declared<'_>,
     scope: &Scope<'_>,
     node: &Reference,
     field: &Name,
-) -> Result<(), OutOfMemory>
-    ensures { OnOk result (Adds out.old.items out.new.items
-        (spec.refusal_rules header.now scope.now node.now field.now)) }
+)
+    ensures { Adds found.old found.new
+        (spec.refusal_rules header.now scope.now node.now field.now) }
 {
-    add_unknown_reference(out, scope, node)?;
-    add_unknown_field_name(out, header, field)?;
+    add_unknown_reference(found, scope, node);
+    add_unknown_field_name(found, header, field);
     let meaning = access_meaning(header, scope, node, field);
-    add_no_flag(out, meaning, reference_place(node))
+    add_no_flag(found, meaning, reference_place(node))
 }
 
 pub(crate) fn add_test_rules(
-    out: &mut Vec<Broken>,
+    found: &mut Findings,
     header: &Declared<'_>,
     scope: &Scope<'_>,
     test: &Test,
-) -> Result<(), OutOfMemory>
-    ensures { OnOk result (Adds out.old.items out.new.items
-        (spec.test_rules header.now scope.now test.now)) }
+)
+    ensures { Adds found.old found.new
+        (spec.test_rules header.now scope.now test.now) }
 {
     match test {
-        Test::Not { node, field, .. } => add_negation_rules(out, header, scope, node, field),
-        Test::Atom(atom) => add_atom_rules(out, header, scope, atom),
+        Test::Not { node, field, .. } => add_negation_rules(found, header, scope, node, field),
+        Test::Atom(atom) => add_atom_rules(found, header, scope, atom),
     }
 }
 
@@ -123,19 +123,13 @@ fn push_test_heads<'a>(
     }
 }
 
-fn add_each_test(
-    out: &mut Vec<Broken>,
-    header: &Declared<'_>,
-    scope: &Scope<'_>,
-    tests: &[Test],
-) -> Result<(), OutOfMemory>
-    ensures { OnOk result (Adds out.old.items out.new.items
-        (flat_map (spec.test_rules header.now scope.now) tests.now)) }
+fn add_each_test(found: &mut Findings, header: &Declared<'_>, scope: &Scope<'_>, tests: &[Test])
+    ensures { Adds found.old found.new
+        (flat_map (spec.test_rules header.now scope.now) tests.now) }
 {
     for test in tests {
-        add_test_rules(out, header, scope, test)?;
+        add_test_rules(found, header, scope, test);
     }
-    Ok(())
 }
 
 fn push_each_head<'a>(
@@ -155,19 +149,20 @@ fn push_each_head<'a>(
 
 /// The tests of an `if` or a `while`, which read fields of one node.
 pub(crate) fn add_tests_rules(
-    out: &mut Vec<Broken>,
+    found: &mut Findings,
     alloc: Global,
     header: &Declared<'_>,
     scope: &Scope<'_>,
     tests: &Tests,
 ) -> Result<(), OutOfMemory>
-    ensures { OnOk result (Adds out.old.items out.new.items
+    ensures { OnOk result (Adds found.old found.new
         (spec.tests_rules header.now scope.now tests.now)) }
 {
-    add_test_rules(out, header, scope, &tests.first)?;
-    add_each_test(out, header, scope, tests.others.as_slice())?;
+    add_test_rules(found, header, scope, &tests.first);
+    add_each_test(found, header, scope, tests.others.as_slice());
     let mut heads = Vec::new(alloc);
     push_test_heads(&mut heads, header, scope, &tests.first)?;
     push_each_head(&mut heads, header, scope, tests.others.as_slice())?;
-    add_others_than_first(out, &heads)
+    add_others_than_first(found, &heads);
+    Ok(())
 }

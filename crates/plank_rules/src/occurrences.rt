@@ -4,7 +4,7 @@ ghost use Rattle.plank_rules.specs.Declarations.{distinct};
 ghost use Rattle.plank_rules.specs.Faults.{Adds};
 ghost use Rattle.plank_rules.specs.Occurrences as spec;
 
-use crate::broken::{Broken, add_when};
+use crate::findings::Findings;
 use crate::names::Names;
 use plank_ast::{Name, Reference};
 use plank_base::{OutOfMemory, Place, TypeKind};
@@ -106,70 +106,61 @@ pub(crate) fn distinct_names<'a>(
 
 /// `Twice`, at each name that stands earlier in the list.
 pub(crate) fn add_repeats(
-    out: &mut Vec<Broken>,
+    found: &mut Findings,
     alloc: Global,
     occurrences: &[Occurrence<'_>],
 ) -> Result<(), OutOfMemory>
-    ensures { OnOk result (Adds out.old.items out.new.items (spec.repeats occurrences.now)) }
+    ensures { OnOk result (Adds found.old found.new (spec.repeats occurrences.now)) }
 {
     let mut names = Names::new(alloc);
     for occurrence in occurrences {
         let is_new = names.add(occurrence.label())?;
-        add_when(out, !is_new, TypeKind::Twice, occurrence.place())?;
+        found.add_when(!is_new, TypeKind::Twice, occurrence.place());
     }
     Ok(())
 }
 
 /// `BindReused`, at each bound variable that stands earlier in the list.
 pub(crate) fn add_reuses(
-    out: &mut Vec<Broken>,
+    found: &mut Findings,
     alloc: Global,
     bound: &Names<'_>,
     occurrences: &[Occurrence<'_>],
 ) -> Result<(), OutOfMemory>
-    ensures { OnOk result (Adds out.old.items out.new.items
+    ensures { OnOk result (Adds found.old found.new
         (spec.reuses bound.now occurrences.now)) }
 {
     let mut names = Names::new(alloc);
     for occurrence in occurrences {
         let is_bound = bound.contains(occurrence.label());
         let is_new = names.add(occurrence.label())?;
-        add_when(
-            out,
+        found.add_when(
             is_bound && !is_new,
             TypeKind::BindReused,
             occurrence.place(),
-        )?;
+        );
     }
     Ok(())
 }
 
 /// `WrongKind`, at each name that is not this one.
-fn add_others_than(
-    out: &mut Vec<Broken>,
-    label: &[u8],
-    occurrences: &[Occurrence<'_>],
-) -> Result<(), OutOfMemory>
-    ensures { OnOk result (Adds out.old.items out.new.items
-        (spec.others_than label.now occurrences.now)) }
+fn add_others_than(found: &mut Findings, label: &[u8], occurrences: &[Occurrence<'_>])
+    ensures { Adds found.old found.new
+        (spec.others_than label.now occurrences.now) }
 {
     for occurrence in occurrences {
         let is_other = label != occurrence.label();
-        add_when(out, is_other, TypeKind::WrongKind, occurrence.place())?;
+        found.add_when(is_other, TypeKind::WrongKind, occurrence.place());
     }
-    Ok(())
 }
 
 /// `WrongKind`, at each name that is not the first.
-pub(crate) fn add_others_than_first(
-    out: &mut Vec<Broken>,
-    occurrences: &[Occurrence<'_>],
-) -> Result<(), OutOfMemory>
-    ensures { OnOk result (Adds out.old.items out.new.items
-        (spec.others_than_first occurrences.now)) }
+pub(crate) fn add_others_than_first(found: &mut Findings, occurrences: &[Occurrence<'_>])
+    ensures { Adds found.old found.new
+        (spec.others_than_first occurrences.now) }
 {
     match occurrences {
-        [] => Ok(()),
-        [first, rest @ ..] => add_others_than(out, first.label(), rest),
+        [] => {}
+        [first, rest @ ..] => add_others_than(found, first.label(), rest),
     }
 }

@@ -2,7 +2,7 @@ use crate::names::Names;
 
 /// Where a condition or a test stands.
 #[derive(Clone, Copy, Debug, PartialEq, Eq)]
-pub(crate) enum Setting {
+pub enum Setting {
     Edge,
     Holds,
     Keep,
@@ -12,8 +12,8 @@ pub(crate) enum Setting {
 
 /// What names mean in a condition or a method.
 #[derive(Debug, Drop)]
-pub(crate) struct Scope<'a> {
-    pub(crate) setting: Setting,
-    pub(crate) nodes: Names<'a>,
-    pub(crate) keys: Names<'a>,
+pub struct Scope<'a> {
+    pub setting: Setting,
+    pub nodes: Names<'a>,
+    pub keys: Names<'a>,
 }

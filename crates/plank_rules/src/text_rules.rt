@@ -8,7 +8,7 @@ ghost use Rattle.plank_rules.specs.MethodRules.{method_rules};
 ghost use Rattle.plank_rules.specs.BrokenRules as spec;
 
 use crate::broken::Broken;
-use crate::first::first_of;
+use crate::findings::Findings;
 use crate::headers::{
     add_edges_rules, add_holds_rules, add_keeps_rules, add_optional_freeze, add_roots_rules,
     add_start_rules,
@@ -68,9 +68,9 @@ fn push_methods<'a>(
     Ok(())
 }
 
-/// The names that the header of a text declares, each once. Takes time and memory linear in the header.
+/// The names that the header of a text declares, each once.
 #[tactic(auto, unfolding(crate::specs::BrokenRules::declared_by))]
-pub fn declared_by(alloc: Global, text: &Text) -> Result<Declared<'_>, OutOfMemory>
+pub(crate) fn declared_by(alloc: Global, text: &Text) -> Result<Declared<'_>, OutOfMemory>
     ensures { IfOk result (λ header. header ≡ spec.declared_by text.now) }
 {
     let mut flags = Vec::new(alloc);
@@ -88,116 +88,115 @@ pub fn declared_by(alloc: Global, text: &Text) -> Result<Declared<'_>, OutOfMemo
 
 /// A field that is declared twice.
 #[tactic(auto, unfolding(crate::specs::BrokenRules::field_repeats))]
-fn add_field_repeats(out: &mut Vec<Broken>, alloc: Global, text: &Text) -> Result<(), OutOfMemory>
-    ensures { OnOk result (Adds out.old.items out.new.items (spec.field_repeats text.now)) }
+fn add_field_repeats(found: &mut Findings, alloc: Global, text: &Text) -> Result<(), OutOfMemory>
+    ensures { OnOk result (Adds found.old found.new (spec.field_repeats text.now)) }
 {
     let mut fields = Vec::new(alloc);
     push_flags(&mut fields, text.flags.as_slice())?;
     push_pointers(&mut fields, text.pointers.as_slice())?;
-    add_repeats(out, alloc, &fields)
+    add_repeats(found, alloc, &fields)
 }
 
 fn add_each_start(
-    out: &mut Vec<Broken>,
+    found: &mut Findings,
     alloc: Global,
     header: &Declared<'_>,
     starts: &Names<'_>,
     lines: &[StartLine],
 ) -> Result<(), OutOfMemory>
-    ensures { OnOk result (Adds out.old.items out.new.items
+    ensures { OnOk result (Adds found.old found.new
         (flat_map (start_rules header.now starts.now) lines.now)) }
 {
     for line in lines {
-        add_start_rules(out, alloc, header, starts, line)?;
+        add_start_rules(found, alloc, header, starts, line)?;
     }
     Ok(())
 }
 
 #[tactic(auto, unfolding(crate::specs::BrokenRules::start_node_rules))]
 fn add_start_node_rules(
-    out: &mut Vec<Broken>,
+    found: &mut Findings,
     alloc: Global,
     header: &Declared<'_>,
     text: &Text,
 ) -> Result<(), OutOfMemory>
-    ensures { OnOk result (Adds out.old.items out.new.items
+    ensures { OnOk result (Adds found.old found.new
         (spec.start_node_rules header.now text.now)) }
 {
     let names = start_names(alloc, text.starts.as_slice())?;
-    add_roots_rules(out, &header.nodes, text.place, text.roots.as_slice())?;
-    add_each_start(out, alloc, header, &header.nodes, text.starts.as_slice())?;
-    add_repeats(out, alloc, &names)
+    add_roots_rules(found, &header.nodes, text.place, text.roots.as_slice());
+    add_each_start(found, alloc, header, &header.nodes, text.starts.as_slice())?;
+    add_repeats(found, alloc, &names)
 }
 
 #[tactic(auto, unfolding(crate::specs::BrokenRules::condition_line_rules))]
 fn add_condition_line_rules(
-    out: &mut Vec<Broken>,
+    found: &mut Findings,
     alloc: Global,
     header: &Declared<'_>,
     text: &Text,
 ) -> Result<(), OutOfMemory>
-    ensures { OnOk result (Adds out.old.items out.new.items
+    ensures { OnOk result (Adds found.old found.new
         (spec.condition_line_rules header.now text.now)) }
 {
-    add_edges_rules(out, alloc, header, text.edges.as_slice())?;
-    add_holds_rules(out, alloc, header, &text.holds)?;
-    add_keeps_rules(out, alloc, header, text.keeps.as_slice())?;
-    add_optional_freeze(out, alloc, header, &text.freeze)
+    add_edges_rules(found, alloc, header, text.edges.as_slice())?;
+    add_holds_rules(found, alloc, header, &text.holds)?;
+    add_keeps_rules(found, alloc, header, text.keeps.as_slice())?;
+    add_optional_freeze(found, alloc, header, &text.freeze)
 }
 
 fn add_each_method(
-    out: &mut Vec<Broken>,
+    found: &mut Findings,
     alloc: Global,
     header: &Declared<'_>,
     methods: &[Method],
 ) -> Result<(), OutOfMemory>
-    ensures { OnOk result (Adds out.old.items out.new.items
+    ensures { OnOk result (Adds found.old found.new
         (flat_map (method_rules header.now) methods.now)) }
 {
     for method in methods {
-        add_method_rules(out, alloc, header, method)?;
+        add_method_rules(found, alloc, header, method)?;
     }
     Ok(())
 }
 
 #[tactic(auto, unfolding(crate::specs::BrokenRules::methods_rules))]
 fn add_methods_rules(
-    out: &mut Vec<Broken>,
+    found: &mut Findings,
     alloc: Global,
     header: &Declared<'_>,
     text: &Text,
 ) -> Result<(), OutOfMemory>
-    ensures { OnOk result (Adds out.old.items out.new.items
+    ensures { OnOk result (Adds found.old found.new
         (spec.methods_rules header.now text.now)) }
 {
     let mut names = Vec::new(alloc);
     push(&mut names, Occurrence::of_name(&text.methods.first.name))?;
     push_methods(&mut names, text.methods.others.as_slice())?;
-    add_repeats(out, alloc, &names)?;
-    add_method_rules(out, alloc, header, &text.methods.first)?;
-    add_each_method(out, alloc, header, text.methods.others.as_slice())
+    add_repeats(found, alloc, &names)?;
+    add_method_rules(found, alloc, header, &text.methods.first)?;
+    add_each_method(found, alloc, header, text.methods.others.as_slice())
 }
 
 #[tactic(auto, unfolding(crate::specs::BrokenRules::broken_rules))]
 fn add_text_rules(
-    out: &mut Vec<Broken>,
+    found: &mut Findings,
     alloc: Global,
     header: &Declared<'_>,
     text: &Text,
 ) -> Result<(), OutOfMemory>
     requires { header.now ≡ spec.declared_by text.now }
-    ensures { OnOk result (Adds out.old.items out.new.items (spec.broken_rules text.now)) }
+    ensures { OnOk result (Adds found.old found.new (spec.broken_rules text.now)) }
 {
-    add_field_repeats(out, alloc, text)?;
-    add_start_node_rules(out, alloc, header, text)?;
-    add_condition_line_rules(out, alloc, header, text)?;
-    add_methods_rules(out, alloc, header, text)
+    add_field_repeats(found, alloc, text)?;
+    add_start_node_rules(found, alloc, header, text)?;
+    add_condition_line_rules(found, alloc, header, text)?;
+    add_methods_rules(found, alloc, header, text)
 }
 
 /// The first rule of typing that a text breaks, by its place and at one place by its kind; none where
-/// the text is well typed. The names are those that [`declared_by`] gives of the text. Takes time and
-/// memory linear in the text.
-pub fn first_broken(
+/// the text is well typed. The names are those that [`declared_by`] gives of the text.
+pub(crate) fn first_broken(
     alloc: Global,
     header: &Declared<'_>,
     text: &Text,
@@ -205,7 +204,7 @@ pub fn first_broken(
     requires { header.now ≡ spec.declared_by text.now }
     ensures { IfOk result (λ first. first ≡ first_of (spec.broken_rules text.now)) }
 {
-    let mut broken = Vec::new(alloc);
-    add_text_rules(&mut broken, alloc, header, text)?;
-    Ok(first_of(&broken))
+    let mut found = Findings::new();
+    add_text_rules(&mut found, alloc, header, text)?;
+    Ok(found.first)
 }

@@ -3,7 +3,7 @@ use Rattle.std.proofs.Common.{◌≡◌, ℕ, List, [], map, ◌∙◌, ap}
 use Rattle.std.specs.Prelude.{is_some}
 use Rattle.plank_ast.specs.declared.texts.Text.{Text}
 use Rattle.plank_rules.specs.declared.names.Declared.{Declared}
-use Rattle.plank_rules.specs.Declarations.{distinct, flag_names, pointer_names, start_names}
+use Rattle.plank_rules.specs.Declarations.{distinct, flag_names, pointer_names}
 use Rattle.plank_rules.specs.Occurrences.{Occurrence, labels_of, repeats}
 use Rattle.plank_rules.specs.Headers.{flag_occurrence, pointer_occurrence, start_occurrence}
 use Rattle.plank_rules.specs.BrokenRules.{declared_by, broken_rules}

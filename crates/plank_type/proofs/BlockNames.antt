@@ -9,10 +9,8 @@ use Rattle.plank_lex.specs.Spelling.{word_of}
 use Rattle.plank_ast.specs.declared.names.Name.{Name}
 use Rattle.plank_ast.specs.declared.names.Reference.{Reference as ReferenceTree}
 use Rattle.plank_ast.specs.declared.statements.Assigned.{Assigned}
-use Rattle.plank_ast.specs.declared.statements.With.{With}
-use Rattle.plank_ast.specs.declared.statements.TestLine.{TestLine}
 use Rattle.plank_ast.specs.declared.statements.Bind.{Bind as BindTree}
-use Rattle.plank_ast.specs.declared.statements.Write.{Write as WriteTree}
+use Rattle.plank_ast.specs.declared.statements.Block.{Block as BlockTree}
 use Rattle.plank_ast.specs.declared.methods.Method.{Method}
 use Rattle.plank_ast.specs.declared.texts.Text.{Text}
 use Rattle.plank_prog.specs.declared.blocks.Bind.{Bind}
@@ -64,7 +62,7 @@ module _ (m : Method) where
       record {
         apart = refl;
         alone = subst (λ (bs : List Bind). binds_stand_alone (record { with = []; tests = []; binds = bs; writes = []; yes = next; no = next }) ≡ true) (one_read names variable node field)
-            (stand_alone m names None [] (b ∷ []) [] next next (and_so (is_among (method_scope m).nodes variable.label) true known refl)
+            (stand_alone m names (record { with = None; tests = []; binds = b ∷ []; writes = [] }) next next (and_so (is_among (method_scope m).nodes variable.label) true known refl)
             (right_none before (read_reuses (method_scope m) variable node) h));
         agree = refl;
       }
@@ -77,18 +75,18 @@ module _ (m : Method) where
   assigned_names t names variable (Assigned.Node node (Some field)) next h = read_names t names variable node field next h
 
   -- the block of `atomic`
-  pub atomic_names : is_among vs (word_of word.Root) ≡ false → (names : Declared) (t : Text) (w : Option With) (tests : List TestLine) (binds : List BindTree) (writes : List WriteTree) (met other : ℕ) → block_rules (rules_header t) (method_scope m) w tests binds writes ≡ [] → LawfulNames (atomic_block names vs w tests binds writes met other)
-  atomic_names rootless names t w tests binds writes met other h =
-      let of_with = optional_with_rules (method_scope m) w in
-      let of_tests = flat_map (test_line_rules (rules_header t) (method_scope m)) tests in
-      let of_binds = flat_map (bind_rules (rules_header t) (method_scope m)) binds in
-      let of_writes = writes_rules (rules_header t) (method_scope m) writes in
-      let of_reuses = block_reuses (method_scope m) w tests binds writes in
+  pub atomic_names : is_among vs (word_of word.Root) ≡ false → (names : Declared) (t : Text) (tree : BlockTree) (met other : ℕ) → block_rules (rules_header t) (method_scope m) tree ≡ [] → LawfulNames (atomic_block names vs tree met other)
+  atomic_names rootless names t tree met other h =
+      let of_with = optional_with_rules (method_scope m) tree.with in
+      let of_tests = flat_map (test_line_rules (rules_header t) (method_scope m)) tree.tests in
+      let of_binds = flat_map (bind_rules (rules_header t) (method_scope m)) tree.binds in
+      let of_writes = writes_rules (rules_header t) (method_scope m) tree.writes in
+      let of_reuses = block_reuses (method_scope m) tree in
       let four = left_none (of_with ++ of_tests ++ of_binds ++ of_writes) of_reuses h in
       let three = left_none (of_with ++ of_tests ++ of_binds) of_writes four in
       record {
-        apart = with_apart m w (left_none of_with of_tests (left_none (of_with ++ of_tests) of_binds three));
-        alone = stand_alone m names w tests binds writes met other (binds_known m t binds (right_none (of_with ++ of_tests) of_binds three))
+        apart = with_apart m tree.with (left_none of_with of_tests (left_none (of_with ++ of_tests) of_binds three));
+        alone = stand_alone m names tree met other (binds_known m t tree.binds (right_none (of_with ++ of_tests) of_binds three))
             (right_none (of_with ++ of_tests ++ of_binds ++ of_writes) of_reuses h);
-        agree = all_agree m rootless names t writes (right_none (of_with ++ of_tests ++ of_binds) of_writes four);
+        agree = all_agree m rootless names t tree.writes (right_none (of_with ++ of_tests ++ of_binds) of_writes four);
       }

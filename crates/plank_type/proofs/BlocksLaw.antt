@@ -1,7 +1,7 @@
 -- The parts of blocks name parts that are there, and each block may stand in its method.
 use Rattle.std.proofs.Common.{◌≡◌, ℕ, Bool, true, false, not, ◌&&◌, ◌||◌, List, [], ◌∷◌, length, map, filter_map, Option, Some, None, refl, ◌∙◌, ap, if◌then◌else◌}
-use Rattle.std.specs.Prelude.{nat_lt, cond}
-use Rattle.std.specs.List.{list_all, list_any, position_or_len, cons_option}
+use Rattle.std.specs.Prelude.{nat_lt}
+use Rattle.std.specs.List.{list_all, list_any, cons_option}
 use Rattle.std.specs.Option.{option_map_or, option_map, option_to_list}
 use Rattle.std.specs.Cmp.{first_so, second_so}
 use Rattle.plank_ast.specs.declared.names.Reference.{Reference as ReferenceTree}
@@ -11,9 +11,8 @@ use Rattle.plank_ast.specs.declared.conditions.Operand.{Operand}
 use Rattle.plank_ast.specs.declared.conditions.AtomEnd.{AtomEnd}
 use Rattle.plank_ast.specs.declared.statements.With.{With}
 use Rattle.plank_ast.specs.declared.statements.Test.{Test as TestTree}
-use Rattle.plank_ast.specs.declared.statements.TestLine.{TestLine}
 use Rattle.plank_ast.specs.declared.statements.Tests.{Tests}
-use Rattle.plank_ast.specs.declared.statements.Bind.{Bind as BindTree}
+use Rattle.plank_ast.specs.declared.statements.Block.{Block as BlockTree}
 use Rattle.plank_ast.specs.declared.statements.Written.{Written}
 use Rattle.plank_ast.specs.declared.statements.Write.{Write as WriteTree}
 use Rattle.plank_ast.specs.declared.statements.Assigned.{Assigned}
@@ -30,7 +29,7 @@ use Rattle.plank_prog.specs.declared.methods.Action.{Action}
 use Rattle.plank_prog.specs.Names.{all_pairs}
 use Rattle.plank_prog.specs.Blocks.{same_reference, reference_fits, flag_fits, key_fits, pointer_fits, is_field, test_fits, bind_fits, write_fits, block_parts_fit, binds_stand_alone, writes_agree, tests_lock, writes_lock, locks_stand_alone, is_lock_statement, is_lawful_block}
 use Rattle.plank_prog.specs.Methods.{is_lawful_action}
-use Rattle.plank_rules.specs.Declarations.{same_name, number_of}
+use Rattle.plank_rules.specs.Declarations.{number_of}
 use Rattle.plank_rules.specs.declared.names.Declared.{Declared}
 use Rattle.plank_type.specs.declared.operands.Meaning.{Meaning}
 use Rattle.plank_type.specs.Conditions.{is_equality}
@@ -38,6 +37,7 @@ use Rattle.plank_type.specs.Operands.{reference_of, with_of, field_meaning, alon
 use Rattle.plank_type.specs.Statements.{idle_block, read_block, assignment, atomic_block, tests_block, take_lock, free_lock}
 use Rattle.plank_type.proofs.Tests.{and_so, both_true, not_true, all_map, all_so}
 use Rattle.plank_type.proofs.Tests.{or_left, or_right}
+use Rattle.plank_type.proofs.NamesOnce.{number_so}
 use Rattle.plank_type.proofs.KnownNames.{same_self}
 use Rattle.plank_type.proofs.BlockNames.{LawfulNames, ReadsLawfully}
 
@@ -47,16 +47,7 @@ pub record Fitting (h : Header) (names : Declared) : Type 0 where
   pub pointers : length h.pointers ≡ length names.pointers
   pub has_lock : h.has_lock ≡ names.has_lock
 
--- ---- numbers of names
-
-given_so : {A : Type 0} (test : A → Bool) (f : ℕ → A) (d : A) (count : ℕ) (below : Bool) (at : ℕ) → nat_lt at count ≡ below → ((i : ℕ) → nat_lt i count ≡ true → test (f i) ≡ true) → test d ≡ true → test (option_map_or f (cond below (Some at) None) d) ≡ true
-given_so test f d count true at h some none = some at h
-given_so test f d count false at h some none = none
-
--- what holds of each number below the number of names, and of what stands for no number
-number_so : {A : Type 0} (test : A → Bool) (f : ℕ → A) (d : A) (name : List ℕ) (names : List (List ℕ)) → ((i : ℕ) → nat_lt i (length names) ≡ true → test (f i) ≡ true) → test d ≡ true → test (option_map_or f (number_of name names) d) ≡ true
-number_so test f d name names some none =
-    given_so test f d (length names) (nat_lt (position_or_len (same_name name) names) (length names)) (position_or_len (same_name name) names) refl some none
+-- ---- what is given
 
 mapped_or : {A : Type 0} (test : A → Bool) (f : ℕ → A) (o : Option ℕ) → option_map_or test (option_map f o) true ≡ option_map_or (λ i. test (f i)) o true
 mapped_or test f None = refl
@@ -321,18 +312,18 @@ module _ (h : Header) (names : Declared) (fitting : Fitting h names) (variables 
       (not_true (writes_lock w) (first_so (not (writes_lock w)) (list_all (λ y. not (writes_lock y)) ws) x))
       (none_of ws (second_so (not (writes_lock w)) (list_all (λ y. not (writes_lock y)) ws) x))
 
-  pub atomic_so : (n : ℕ) (w : Option With) (tests : List TestLine) (binds : List BindTree) (writes : List WriteTree) (met other : ℕ) → nat_lt met n ≡ true → nat_lt other n ≡ true → LawfulNames (atomic_block names variables w tests binds writes met other) → is_lawful_block h v n (atomic_block names variables w tests binds writes met other) ≡ true
-  atomic_so n w tests binds writes met other x y named =
-      let b : Block = atomic_block names variables w tests binds writes met other in
+  pub atomic_so : (n : ℕ) (tree : BlockTree) (met other : ℕ) → nat_lt met n ≡ true → nat_lt other n ≡ true → LawfulNames (atomic_block names variables tree met other) → is_lawful_block h v n (atomic_block names variables tree met other) ≡ true
+  atomic_so n tree met other x y named =
+      let b : Block = atomic_block names variables tree met other in
       block_so n b
-      (parts_so b (with_fit w)
-      (all_map (test_fits h v) (λ line. test_of names variables line.test) tests ∙ all_so (λ line. test_fits h v (test_of names variables line.test)) (λ line. test_fit line.test) tests)
-      (kept_so (bind_fits h v) (bind_of names variables) (λ d. read_fit d.variable.label d.node d.field.label) binds)
-      (kept_so (write_fits h v) (write_of names variables) write_fit writes))
+      (parts_so b (with_fit tree.with)
+      (all_map (test_fits h v) (λ line. test_of names variables line.test) tree.tests ∙ all_so (λ line. test_fits h v (test_of names variables line.test)) (λ line. test_fit line.test) tree.tests)
+      (kept_so (bind_fits h v) (bind_of names variables) (λ d. read_fit d.variable.label d.node d.field.label) tree.binds)
+      (kept_so (write_fits h v) (write_of names variables) write_fit tree.writes))
       x y named
-      (no_locks_so b (no_locks (λ line. line.test) tests)
-      (none_of (writes_of names variables writes)
-      (kept_so (λ u. not (writes_lock u)) (write_of names variables) (λ u. written_no_lock (reference_of variables u.node) u.field.label u.value) writes)))
+      (no_locks_so b (no_locks (λ line. line.test) tree.tests)
+      (none_of (writes_of names variables tree.writes)
+      (kept_so (λ u. not (writes_lock u)) (write_of names variables) (λ u. written_no_lock (reference_of variables u.node) u.field.label u.value) tree.writes)))
 
   -- ---- assignments
 

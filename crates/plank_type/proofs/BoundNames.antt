@@ -3,10 +3,8 @@ use Rattle.std.proofs.Common.{◌≡◌, ℕ, ◌+◌, ◌≤◌, Bool, true, fa
 use Rattle.std.specs.Prelude.{◌==◌}
 use Rattle.std.specs.List.{list_all, list_any, flat_map}
 use Rattle.std.specs.Cmp.{first_so, second_so}
-use Rattle.plank_ast.specs.declared.statements.With.{With}
-use Rattle.plank_ast.specs.declared.statements.TestLine.{TestLine}
 use Rattle.plank_ast.specs.declared.statements.Bind.{Bind as BindTree}
-use Rattle.plank_ast.specs.declared.statements.Write.{Write as WriteTree}
+use Rattle.plank_ast.specs.declared.statements.Block.{Block as BlockTree}
 use Rattle.plank_ast.specs.declared.methods.Method.{Method}
 use Rattle.plank_ast.specs.declared.texts.Text.{Text}
 use Rattle.plank_prog.specs.declared.blocks.Reference.{Reference}
@@ -76,40 +74,40 @@ module _ (m : Method) where
       (left_none (bind_rules (rules_header t) (method_scope m) b) rest h)))
       (binds_known t bs (right_none (bind_rules (rules_header t) (method_scope m) b) rest h))
 
-  module _ (names : Declared) (w : Option With) (tests : List TestLine) (binds : List BindTree) (writes : List WriteTree) (met other : ℕ) (known : are_known binds ≡ true) (reused : block_reuses (method_scope m) w tests binds writes ≡ []) where
-    counted : (a : List ℕ) → times a (block_names w tests binds writes) ≡ times a (with_names w) + times a (flat_map test_line_names tests) + (times a (variables_bound binds) + times a (nodes_read binds)) + times a (flat_map write_names writes)
+  module _ (names : Declared) (tree : BlockTree) (met other : ℕ) (known : are_known tree.binds ≡ true) (reused : block_reuses (method_scope m) tree ≡ []) where
+    counted : (a : List ℕ) → times a (block_names tree) ≡ times a (with_names tree.with) + times a (flat_map test_line_names tree.tests) + (times a (variables_bound tree.binds) + times a (nodes_read tree.binds)) + times a (flat_map write_names tree.writes)
     counted a =
-        let ws = with_names w in
-        let ts = flat_map test_line_names tests in
-        let bs = flat_map bind_names binds in
-        let us = flat_map write_names writes in
+        let ws = with_names tree.with in
+        let ts = flat_map test_line_names tree.tests in
+        let bs = flat_map bind_names tree.binds in
+        let us = flat_map write_names tree.writes in
         times_append a (ws ++ ts ++ bs) us
-        ∙ ap (λ n. n + times a us) (times_append a (ws ++ ts) bs ∙ ap (λ n. n + times a bs) (times_append a ws ts) ∙ ap (λ n. times a ws + times a ts + n) (times_in_binds a binds))
+        ∙ ap (λ n. n + times a us) (times_append a (ws ++ ts) bs ∙ ap (λ n. n + times a bs) (times_append a ws ts) ∙ ap (λ n. times a ws + times a ts + n) (times_in_binds a tree.binds))
 
-    once : (a : List ℕ) → is_among (method_scope m).nodes a ≡ true → 1 ≤ times a (variables_bound binds) → times a (with_names w) + times a (flat_map test_line_names tests) + (times a (variables_bound binds) + times a (nodes_read binds)) + times a (flat_map write_names writes) ≤ 1
+    once : (a : List ℕ) → is_among (method_scope m).nodes a ≡ true → 1 ≤ times a (variables_bound tree.binds) → times a (with_names tree.with) + times a (flat_map test_line_names tree.tests) + (times a (variables_bound tree.binds) + times a (nodes_read tree.binds)) + times a (flat_map write_names tree.writes) ≤ 1
     once a here some =
         subst (λ (n : ℕ). n ≤ 1) (counted a)
-        (bound_once (bound_by (method_scope m) binds) [] a (block_names w tests binds writes) (variable_bound m [] a binds here some) reused)
+        (bound_once (bound_by (method_scope m) tree.binds) [] a (block_names tree) (variable_bound m [] a tree.binds here some) reused)
 
-    binds_apart : all_pairs (λ d e. not (d.to == e.to)) (binds_of names vs binds) ≡ true
+    binds_apart : all_pairs (λ d e. not (d.to == e.to)) (binds_of names vs tree.binds) ≡ true
     binds_apart =
         kept_pairs (λ d e. not (d.to == e.to)) (λ b c. names_differ b.variable.label c.variable.label) (bind_of names vs)
         (λ b c d e apart f g.
         numbers_apart b.variable.label c.variable.label vs d.to e.to apart
         (bind_numbered (number_of b.variable.label vs) (reference_of vs b.node) (number_of b.field.label names.pointers) d f)
         (bind_numbered (number_of c.variable.label vs) (reference_of vs c.node) (number_of c.field.label names.pointers) e g))
-        binds
-        (bound_apart binds known (λ a here some. let most = once a here some in omega (arith, most)))
+        tree.binds
+        (bound_apart tree.binds known (λ a here some. let most = once a here some in omega (arith, most)))
 
     abbrev block : Block
-    block = atomic_block names vs w tests binds writes met other
+    block = atomic_block names vs tree met other
 
-    free_of : (a : List ℕ) (v : ℕ) → number_of a vs ≡ Some v → is_among (method_scope m).nodes a ≡ true → 1 ≤ times a (variables_bound binds) → block_reads block (Reference.Variable v) ≡ false
+    free_of : (a : List ℕ) (v : ℕ) → number_of a vs ≡ Some v → is_among (method_scope m).nodes a ≡ true → 1 ≤ times a (variables_bound tree.binds) → block_reads block (Reference.Variable v) ≡ false
     free_of a v e here some =
         let most = once a here some in
-        block_unread names vs a v e w tests binds writes met other (omega (arith, most)) (omega (arith, most)) (omega (arith, most)) (omega (arith, most))
+        block_unread names vs a v e tree met other (omega (arith, most)) (omega (arith, most)) (omega (arith, most)) (omega (arith, most))
 
-    none_read : (bs : List BindTree) → are_known bs ≡ true → ((a : List ℕ) → 1 ≤ times a (variables_bound bs) → 1 ≤ times a (variables_bound binds)) → list_any (λ d. block_reads block (Reference.Variable d.to)) (binds_of names vs bs) ≡ false
+    none_read : (bs : List BindTree) → are_known bs ≡ true → ((a : List ℕ) → 1 ≤ times a (variables_bound bs) → 1 ≤ times a (variables_bound tree.binds)) → list_any (λ d. block_reads block (Reference.Variable d.to)) (binds_of names vs bs) ≡ false
     none_read [] here within = refl
     none_read (b ∷ bs) here within =
         let l = b.variable.label in
@@ -124,5 +122,5 @@ module _ (m : Method) where
     -- a bound variable occurs once
     pub stand_alone : binds_stand_alone block ≡ true
     stand_alone =
-        and_so (all_pairs (λ d e. not (d.to == e.to)) (binds_of names vs binds)) (not (list_any (λ d. block_reads block (Reference.Variable d.to)) (binds_of names vs binds)))
-        binds_apart (ap not (none_read binds known (λ a some. some)))
+        and_so (all_pairs (λ d e. not (d.to == e.to)) (binds_of names vs tree.binds)) (not (list_any (λ d. block_reads block (Reference.Variable d.to)) (binds_of names vs tree.binds)))
+        binds_apart (ap not (none_read tree.binds known (λ a some. some)))

@@ -20,23 +20,29 @@ use Rattle.plank_ast.specs.declared.header.ConditionLine.{ConditionLine}
 use Rattle.plank_ast.specs.declared.texts.Text.{Text}
 use Rattle.plank_prog.specs.declared.conditions.Condition.{Condition}
 use Rattle.plank_prog.specs.Names.{all_pairs, names_differ}
-use Rattle.plank_prog.specs.Headers.{is_lawful_header, is_header_within_limits, have_distinct_fields, have_distinct_names, have_lawful_nodes, have_lawful_conditions, is_lawful_start_node, leads_within, optional_fits, walk_scope, keep_scope}
+use Rattle.plank_prog.specs.Headers.{is_lawful_header, is_header_within_limits, have_distinct_fields, have_distinct_names, have_lawful_nodes, have_lawful_conditions, is_lawful_start_node, leads_within, optional_fits, walk_scope, freeze_scope, keep_scope}
 use Rattle.plank_prog.specs.declared.scopes.Scope.{Scope}
 use Rattle.plank_prog.specs.Scopes.{condition_fits}
 use Rattle.plank_rules.specs.declared.broken.Broken.{Broken}
 use Rattle.plank_rules.specs.Declarations.{same_name, is_among, with_name, number_of, distinct, flag_names, pointer_names, start_names, keep_names}
 use Rattle.plank_rules.specs.Faults.{when, unknown}
 use Rattle.plank_rules.specs.Occurrences.{Occurrence, labels_of}
-use Rattle.plank_rules.specs.Headers.{flag_occurrence, pointer_occurrence, start_occurrence, named_occurrence, root_rules, one_root, roots_rules}
-use Rattle.plank_rules.specs.BrokenRules.{field_occurrences, broken_rules}
-use Rattle.plank_type.proofs.Rules.{of_fields, of_roots, of_starts, of_keeps}
+use Rattle.plank_rules.specs.declared.scopes.Setting.{Setting}
+use Rattle.plank_rules.specs.declared.names.Declared.{Declared}
+use Rattle.plank_rules.specs.Meanings.{label_meaning}
+use Rattle.plank_rules.specs.Conditions.{condition_rules}
+use Rattle.plank_rules.specs.Headers.{header_scope, flag_occurrence, pointer_occurrence, start_occurrence, named_occurrence, root_rules, one_root, roots_rules, pointer_rules, edge_rules, holds_rules, keep_rules, optional_freeze_rules}
+use Rattle.plank_rules.specs.BrokenRules.{declared_by, field_occurrences, broken_rules}
+use Rattle.plank_type.proofs.Rules.{of_fields, of_roots, of_starts, of_edges, of_holds, of_keep_conditions, of_freeze, of_keeps}
+use Rattle.plank_type.proofs.AsWritten.{declared_as_written}
 use Rattle.plank_type.specs.Numbers.{names_of}
-use Rattle.plank_type.specs.Headers.{walk_scope_of, freeze_scope_of, keep_scope_of, edge_of, pointer_of, start_key, starts_set, start_flags, node_of, start_pointer, start_node_of, root_of, keep_of, freeze_of, header_of}
+use Rattle.plank_type.specs.Headers.{edge_of, pointer_of, start_key, starts_set, start_flags, node_of, start_pointer, start_node_of, root_of, keep_of, freeze_of, header_of}
 use Rattle.plank_type.specs.Conditions.{condition_of}
 use Rattle.plank_type.specs.Limits.{text_excess}
 use Rattle.plank_type.proofs.Tests.{and_so, both_true, or_first, or_second, left_none, right_none, map_map, all_map, pairs_map, all_so}
 use Rattle.plank_type.proofs.Distinct.{distinct_labels}
 use Rattle.plank_type.proofs.WithinLimits.{length_map, few_names, few_pointers, few_nodes}
+use Rattle.plank_type.proofs.OperandsFit.{scope_at}
 use Rattle.plank_type.proofs.ConditionsFit.{condition_of_fits}
 
 -- ---- names
@@ -112,15 +118,18 @@ unlisted_test : (test : Bool) (b : Broken) → when test b ≡ [] → test ≡ f
 unlisted_test false b h = refl
 unlisted_test true b h = absurd (cc)
 
-root_below : (nodes : List (List ℕ)) (structure : Place) (roots : List RootLine) → roots_rules (distinct nodes) structure roots ≡ [] → root_of nodes roots < length nodes
-root_below nodes structure [] h = absurd (cc)
-root_below nodes structure (r ∷ rs) h =
-    number_below (same_name r.name.label) nodes
-    (among_declared nodes r.name.label
+-- the first root is a start node
+pub root_known : (nodes : List (List ℕ)) (structure : Place) (r : RootLine) (rs : List RootLine) → roots_rules (distinct nodes) structure (r ∷ rs) ≡ [] → is_among nodes r.name.label ≡ true
+root_known nodes structure r rs h =
+    among_declared nodes r.name.label
     (true_unless (is_among (distinct nodes) r.name.label) (λ k.
     sym (ap not k) ∙ unlisted_test (not (is_among (distinct nodes) r.name.label)) (unknown r.name.place)
     (left_none (root_rules (distinct nodes) r) (flat_map (root_rules (distinct nodes)) rs)
-    (right_none (one_root structure (r ∷ rs)) (flat_map (root_rules (distinct nodes)) (r ∷ rs)) h)))))
+    (right_none (one_root structure (r ∷ rs)) (flat_map (root_rules (distinct nodes)) (r ∷ rs)) h))))
+
+root_below : (nodes : List (List ℕ)) (structure : Place) (roots : List RootLine) → roots_rules (distinct nodes) structure roots ≡ [] → root_of nodes roots < length nodes
+root_below nodes structure [] h = absurd (cc)
+root_below nodes structure (r ∷ rs) h = number_below (same_name r.name.label) nodes (root_known nodes structure r rs h)
 
 -- ---- start nodes
 
@@ -247,17 +256,35 @@ module _ (t : Text) (rules : broken_rules t ≡ []) (within : text_excess t ≡ 
       (all_map (is_lawful_start_node (header_of t)) (start_node_of (names_of t)) t.starts
       ∙ all_so (λ line. is_lawful_start_node (header_of t) (start_node_of (names_of t) line)) (node_is_lawful t) t.starts)
 
-  edge_fits : (edges : List NamedCondition) (pointer : List ℕ) → optional_fits (walk_scope_of (names_of t)) (edge_of (names_of t) edges pointer) ≡ true
-  edge_fits [] pointer = refl
-  edge_fits (line ∷ lines) pointer =
-      either_fits (same_name pointer line.name.label) (walk_scope_of (names_of t)) (Some (condition_of (names_of t) (walk_scope_of (names_of t)) line.condition)) (edge_of (names_of t) lines pointer)
-      (condition_of_fits (names_of t) (walk_scope_of (names_of t)) line.condition) (edge_fits lines pointer)
+  -- the rules look names up as they are written
+  as_written : declared_by t ≡ names_of t
+  as_written = declared_as_written t rules
 
-  freeze_fits : (line : Option ConditionLine) → optional_fits (freeze_scope_of (names_of t)) (freeze_of (names_of t) line) ≡ true
-  freeze_fits None = refl
-  freeze_fits (Some line) = condition_of_fits (names_of t) (freeze_scope_of (names_of t)) line.condition
+  edge_fits : (edges : List NamedCondition) → flat_map (edge_rules (names_of t) (header_scope Setting.Edge)) edges ≡ [] → (pointer : List ℕ) → optional_fits (walk_scope (header_of t)) (edge_of (names_of t) edges pointer) ≡ true
+  edge_fits [] none pointer = refl
+  edge_fits (line ∷ lines) none pointer =
+      let here = edge_rules (names_of t) (header_scope Setting.Edge) line in
+      let rest = flat_map (edge_rules (names_of t) (header_scope Setting.Edge)) lines in
+      either_fits (same_name pointer line.name.label) (walk_scope (header_of t)) (Some (condition_of (names_of t) line.condition)) (edge_of (names_of t) lines pointer)
+      ((condition_of_fits (names_of t) Setting.Edge refl line.condition).fits
+      (right_none (pointer_rules (label_meaning (names_of t) line.name.label) line.name.place) (condition_rules (names_of t) (header_scope Setting.Edge) line.condition)
+      (left_none here rest none)))
+      (edge_fits lines (right_none here rest none) pointer)
 
-  same_keep_scope : keep_scope (header_of t) ≡ keep_scope_of (names_of t)
+  keep_fits : (keeps : List NamedCondition) → flat_map (keep_rules (names_of t) (header_scope Setting.Keep)) keeps ≡ [] → list_all (λ line. condition_fits (scope_at (names_of t) Setting.Keep) (condition_of (names_of t) line.condition)) keeps ≡ true
+  keep_fits [] none = refl
+  keep_fits (line ∷ lines) none =
+      let here = keep_rules (names_of t) (header_scope Setting.Keep) line in
+      let rest = flat_map (keep_rules (names_of t) (header_scope Setting.Keep)) lines in
+      and_so (condition_fits (scope_at (names_of t) Setting.Keep) (condition_of (names_of t) line.condition))
+      (list_all (λ k. condition_fits (scope_at (names_of t) Setting.Keep) (condition_of (names_of t) k.condition)) lines)
+      ((condition_of_fits (names_of t) Setting.Keep refl line.condition).fits (left_none here rest none)) (keep_fits lines (right_none here rest none))
+
+  freeze_fits : (line : Option ConditionLine) → optional_freeze_rules (names_of t) line ≡ [] → optional_fits (freeze_scope (header_of t)) (freeze_of (names_of t) line) ≡ true
+  freeze_fits None none = refl
+  freeze_fits (Some line) none = (condition_of_fits (names_of t) Setting.Freeze refl line.condition).fits none
+
+  same_keep_scope : keep_scope (header_of t) ≡ scope_at (names_of t) Setting.Keep
   same_keep_scope =
       ap (λ (n : ℕ). record { flags = length (flag_names t); pointers = n; walked = true; visited = true })
       (length_map (pointer_of (names_of t) t.edges) t.pointers ∙ sym (length_map (λ line. line.name.label) t.pointers))
@@ -266,13 +293,13 @@ module _ (t : Text) (rules : broken_rules t ≡ []) (within : text_excess t ≡ 
   lawful_conditions =
       both_true (both_true (both_true
       (all_map (λ p. optional_fits (walk_scope (header_of t)) p.edge) (pointer_of (names_of t) t.edges) t.pointers
-      ∙ all_so (λ line. optional_fits (walk_scope (header_of t)) (edge_of (names_of t) t.edges line.name.label)) (λ line. edge_fits t.edges line.name.label) t.pointers)
-      (condition_of_fits (names_of t) (walk_scope_of (names_of t)) t.holds.condition))
+      ∙ all_so (λ line. optional_fits (walk_scope (header_of t)) (edge_of (names_of t) t.edges line.name.label))
+      (λ line. edge_fits t.edges (subst (λ (names : Declared). flat_map (edge_rules names (header_scope Setting.Edge)) t.edges ≡ []) as_written (of_edges t rules)) line.name.label) t.pointers)
+      ((condition_of_fits (names_of t) Setting.Holds refl t.holds.condition).fits (subst (λ (names : Declared). holds_rules names t.holds ≡ []) as_written (of_holds t rules))))
       (all_map (λ k. condition_fits (keep_scope (header_of t)) k.condition) (keep_of (names_of t)) t.keeps
-      ∙ all_so (λ line. condition_fits (keep_scope (header_of t)) (condition_of (names_of t) (keep_scope_of (names_of t)) line.condition))
-      (λ line. ap (λ s. condition_fits s (condition_of (names_of t) (keep_scope_of (names_of t)) line.condition)) same_keep_scope
-      ∙ condition_of_fits (names_of t) (keep_scope_of (names_of t)) line.condition) t.keeps))
-      (freeze_fits t.freeze)
+      ∙ ap (λ s. list_all (λ line. condition_fits s (condition_of (names_of t) line.condition)) t.keeps) same_keep_scope
+      ∙ keep_fits t.keeps (subst (λ (names : Declared). flat_map (keep_rules names (header_scope Setting.Keep)) t.keeps ≡ []) as_written (of_keep_conditions t rules))))
+      (freeze_fits t.freeze (subst (λ (names : Declared). optional_freeze_rules names t.freeze ≡ []) as_written (of_freeze t rules)))
 
   pub header_is_lawful : is_lawful_header (header_of t) ≡ true
   header_is_lawful = both_true (both_true (both_true header_within distinct_names) lawful_nodes) lawful_conditions

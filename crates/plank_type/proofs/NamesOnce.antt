@@ -2,7 +2,8 @@
 use Rattle.std.proofs.Common.{◌≡◌, ℕ, suc, ◌+◌, ◌≤◌, ◌<◌, Bool, true, false, not, ◌&&◌, ◌||◌, List, [], ◌∷◌, ◌++◌, length, map, get_or, Some, None, refl, sym, ◌∙◌, ap, subst, arith, if◌then◌else◌}
 use Rattle.std.specs.Prelude.{nat_lt, cond, fold}
 use Rattle.std.specs.List.{list_any, flat_map, position_or_len}
-use Rattle.std.proofs.lemmas.Bool.{ltb-false, false≢true}
+use Rattle.std.specs.Option.{option_map_or}
+use Rattle.std.proofs.lemmas.Bool.{ltb-false, lt-ltb, false≢true}
 use Rattle.std.proofs.lemmas.List.Folds.{list_any_at, list_any-append}
 use Rattle.std.proofs.lemmas.List.Quantifiers.{position-Some}
 use Rattle.plank_ast.specs.declared.statements.Bind.{Bind as BindTree}
@@ -93,6 +94,21 @@ no_number false at count e h = ltb-false at count e
 pub not_numbered : (a : List ℕ) (names : List (List ℕ)) → number_of a names ≡ None → is_among names a ≡ false
 not_numbered a names h =
     past_each (same_name a) names (no_number (nat_lt (position_or_len (same_name a) names) (length names)) (position_or_len (same_name a) names) (length names) refl h)
+
+-- a number lies below the number of names
+pub numbered_below : (a : List ℕ) (names : List (List ℕ)) (v : ℕ) → number_of a names ≡ Some v → nat_lt v (length names) ≡ true
+numbered_below a names v h =
+    let at : (v < length names) × (same_name a (get_or names v a) ≡ true) × ((k : ℕ) → k < v → same_name a (get_or names k a) ≡ false) = position-Some (same_name a) names v a h in
+    lt-ltb v (length names) at.0
+
+given_so : {A : Type 0} (test : A → Bool) (f : ℕ → A) (d : A) (count : ℕ) (below : Bool) (at : ℕ) → nat_lt at count ≡ below → ((i : ℕ) → nat_lt i count ≡ true → test (f i) ≡ true) → test d ≡ true → test (option_map_or f (cond below (Some at) None) d) ≡ true
+given_so test f d count true at h some none = some at h
+given_so test f d count false at h some none = none
+
+-- what holds of each number below the number of names, and of what stands for no number
+pub number_so : {A : Type 0} (test : A → Bool) (f : ℕ → A) (d : A) (name : List ℕ) (names : List (List ℕ)) → ((i : ℕ) → nat_lt i (length names) ≡ true → test (f i) ≡ true) → test d ≡ true → test (option_map_or f (number_of name names) d) ≡ true
+number_so test f d name names some none =
+    given_so test f d (length names) (nat_lt (position_or_len (same_name name) names) (length names)) (position_or_len (same_name name) names) refl some none
 
 -- ---- how often a name occurs
 

@@ -1,5 +1,5 @@
 -- Statements have as many locations as their size says, and each may stand in its method, by induction over statements.
-use Rattle.std.proofs.Common.{◌≡◌, ℕ, suc, ◌<◌, ◌≤◌, ◌+◌, Bool, true, false, List, [], ◌∷◌, ◌++◌, length, map, Option, refl, sym, ◌∙◌, ap, subst, arith, length-append, if◌then◌else◌}
+use Rattle.std.proofs.Common.{◌≡◌, ℕ, suc, ◌<◌, ◌≤◌, ◌+◌, Bool, true, false, List, [], ◌∷◌, ◌++◌, length, map, refl, sym, ◌∙◌, ap, subst, arith, length-append, if◌then◌else◌}
 use Rattle.std.specs.Prelude.{nat_lt}
 use Rattle.std.specs.List.{list_all, flat_map}
 use Rattle.std.proofs.lemmas.Bool.{lt-ltb}
@@ -7,11 +7,8 @@ use Rattle.std.proofs.lemmas.List.Folds.{list_all-append, flat_map-map}
 use Rattle.plank_base.specs.declared.places.Place.{Place}
 use Rattle.plank_lex.specs.declared.words.Reserved.TheVariants as word
 use Rattle.plank_lex.specs.Spelling.{word_of}
-use Rattle.plank_ast.specs.declared.statements.With.{With}
-use Rattle.plank_ast.specs.declared.statements.TestLine.{TestLine}
 use Rattle.plank_ast.specs.declared.statements.Tests.{Tests}
-use Rattle.plank_ast.specs.declared.statements.Bind.{Bind as BindTree}
-use Rattle.plank_ast.specs.declared.statements.Write.{Write as WriteTree}
+use Rattle.plank_ast.specs.declared.statements.Block.{Block as BlockTree}
 use Rattle.plank_ast.specs.declared.statements.Statement.{Statement}
 use Rattle.plank_ast.specs.declared.statements.Body.{Body}
 use Rattle.plank_ast.specs.declared.statements.Else.{Else}
@@ -120,18 +117,18 @@ module _ (t : Text) (m : Method) (rootless : is_among (variables_of m) (word_of 
         (o.lawful (right_none (of_tests ++ of_body) of_else none) count (at + 1 + body.size) exits (omega (arith, room))));
   }
 
-  atomic_part_so : (of_else : List Broken) (place : Place) (w : Option With) (tests : List TestLine) (binds : List BindTree) (writes : List WriteTree) (otherwise : Part) → Lawful of_else otherwise → Lawful (block_rules (rules_header t) (method_scope m) w tests binds writes ++ of_else) (atomic_part place w tests binds writes otherwise)
-  atomic_part_so of_else place w tests binds writes otherwise o = record {
+  atomic_part_so : (of_else : List Broken) (place : Place) (tree : BlockTree) (otherwise : Part) → Lawful of_else otherwise → Lawful (block_rules (rules_header t) (method_scope m) tree ++ of_else) (atomic_part place tree otherwise)
+  atomic_part_so of_else place tree otherwise o = record {
     size = λ count at exits. one_more (otherwise.locations names variables count (at + 1) exits) otherwise.size (o.size count (at + 1) exits);
     lawful = λ none count at exits room.
         let below : at < count = omega (arith, room) in
-        and_so (is_lawful_action h (length variables) count (Action.Block (atomic_block names variables w tests binds writes (exit_within count at exits.next) (exit_within count at (otherwise.entry (at + 1) exits)))))
+        and_so (is_lawful_action h (length variables) count (Action.Block (atomic_block names variables tree (exit_within count at exits.next) (exit_within count at (otherwise.entry (at + 1) exits)))))
         (each_lawful count (otherwise.locations names variables count (at + 1) exits))
-        (atomic_so h names fitting variables count w tests binds writes (exit_within count at exits.next) (exit_within count at (otherwise.entry (at + 1) exits))
+        (atomic_so h names fitting variables count tree (exit_within count at exits.next) (exit_within count at (otherwise.entry (at + 1) exits))
         (exit_below count at exits.next below) (exit_below count at (otherwise.entry (at + 1) exits) below)
-        (atomic_names m rootless names t w tests binds writes (exit_within count at exits.next) (exit_within count at (otherwise.entry (at + 1) exits))
-        (left_none (block_rules (rules_header t) (method_scope m) w tests binds writes) of_else none)))
-        (o.lawful (right_none (block_rules (rules_header t) (method_scope m) w tests binds writes) of_else none) count (at + 1) exits (omega (arith, room)));
+        (atomic_names m rootless names t tree (exit_within count at exits.next) (exit_within count at (otherwise.entry (at + 1) exits))
+        (left_none (block_rules (rules_header t) (method_scope m) tree) of_else none)))
+        (o.lawful (right_none (block_rules (rules_header t) (method_scope m) tree) of_else none) count (at + 1) exits (omega (arith, room)));
   }
 
   -- ---- lists
@@ -220,8 +217,8 @@ module _ (t : Text) (m : Method) (rootless : is_among (variables_of m) (word_of 
       (λ names variables count at exits. assignment names variables variable.label value (exit_within count at exits.next))
       (λ none count at exits below. assignment_so h names fitting variables count variable.label value (exit_within count at exits.next) (exit_below count at exits.next below)
       (assigned_names m t names variable value (exit_within count at exits.next) none))
-  statement_layer (Statement-F.Atomic place w tests binds writes otherwise) =
-      atomic_part_so (rules_of_else otherwise.0) place w tests binds writes (else_part otherwise.0) otherwise.1
+  statement_layer (Statement-F.Atomic place tree otherwise) =
+      atomic_part_so (rules_of_else otherwise.0) place tree (else_part otherwise.0) otherwise.1
   statement_layer (Statement-F.Lock place node) =
       step_so (lock_rules (rules_header t) (method_scope m) place node) place
       (λ names variables count at exits. Action.Block (take_lock names (reference_of variables node) (exit_within count at exits.next) at))

@@ -59,7 +59,7 @@ part_layer z = statement_step (map-Statement Else Statement Body Part Part Part 
 
 layer_goes : (y : Statement-F ProvedElse ProvedStatement ProvedBody) → stray_layer (plain_statement y) ≡ [] → (still_layer (plain_statement y)).leaves ≡ false
 layer_goes (Statement-F.Assign variable value) n = refl
-layer_goes (Statement-F.Atomic place w tests binds writes otherwise) n = refl
+layer_goes (Statement-F.Atomic place tree otherwise) n = refl
 layer_goes (Statement-F.Lock place node) n = refl
 layer_goes (Statement-F.Unlock place node) n = refl
 layer_goes (Statement-F.If place tests body otherwise) n = refl
@@ -77,7 +77,7 @@ more_than_both m n = omega arith
 
 layer_steps : (y : Statement-F ProvedElse ProvedStatement ProvedBody) → (still_layer (plain_statement y)).leaves ≡ false → (still_layer (plain_statement y)).loops ≡ [] → 0 < (part_layer (plain_statement y)).size
 layer_steps (Statement-F.Assign variable value) l n = omega arith
-layer_steps (Statement-F.Atomic place w tests binds writes otherwise) l n = more_than_none (else_part otherwise.0).size
+layer_steps (Statement-F.Atomic place tree otherwise) l n = more_than_none (else_part otherwise.0).size
 layer_steps (Statement-F.Lock place node) l n = omega arith
 layer_steps (Statement-F.Unlock place node) l n = omega arith
 layer_steps (Statement-F.If place tests body otherwise) l n = more_than_both (body_part body.0).size (else_part otherwise.0).size

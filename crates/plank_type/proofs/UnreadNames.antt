@@ -13,6 +13,7 @@ use Rattle.plank_ast.specs.declared.statements.With.{With}
 use Rattle.plank_ast.specs.declared.statements.Test.{Test as TestTree}
 use Rattle.plank_ast.specs.declared.statements.TestLine.{TestLine}
 use Rattle.plank_ast.specs.declared.statements.Bind.{Bind as BindTree}
+use Rattle.plank_ast.specs.declared.statements.Block.{Block as BlockTree}
 use Rattle.plank_ast.specs.declared.statements.Written.{Written}
 use Rattle.plank_ast.specs.declared.statements.Write.{Write as WriteTree}
 use Rattle.plank_prog.specs.declared.blocks.Reference.{Reference}
@@ -205,7 +206,7 @@ module _ (names : Declared) (variables : List (List ℕ)) (a : List ℕ) (v : �
 
   -- ---- blocks
 
-  -- a block in which the name occurs as the variable of binds at most
-  pub block_unread : (w : Option With) (tests : List TestLine) (binds : List BindTree) (writes : List WriteTree) (met other : ℕ) → times a (with_names w) ≡ 0 → times a (flat_map test_line_names tests) ≡ 0 → times a (nodes_read binds) ≡ 0 → times a (flat_map write_names writes) ≡ 0 → block_reads (atomic_block names variables w tests binds writes met other) r ≡ false
-  block_unread w tests binds writes met other in_with in_tests in_binds in_writes =
-      neither (neither (neither (with_unread w in_with) (tests_unread tests in_tests)) (binds_unread binds in_binds)) (writes_unread writes in_writes)
+  -- a block in which the name occurs as the variable of tree.binds at most
+  pub block_unread : (tree : BlockTree) (met other : ℕ) → times a (with_names tree.with) ≡ 0 → times a (flat_map test_line_names tree.tests) ≡ 0 → times a (nodes_read tree.binds) ≡ 0 → times a (flat_map write_names tree.writes) ≡ 0 → block_reads (atomic_block names variables tree met other) r ≡ false
+  block_unread tree met other in_with in_tests in_binds in_writes =
+      neither (neither (neither (with_unread tree.with in_with) (tests_unread tree.tests in_tests)) (binds_unread tree.binds in_binds)) (writes_unread tree.writes in_writes)

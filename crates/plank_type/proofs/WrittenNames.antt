@@ -1,11 +1,10 @@
 -- Where the writes of a block break no rule of typing, they are of one node and of different fields.
-use Rattle.std.proofs.Common.{◌≡◌, ℕ, Bool, true, false, not, ◌&&◌, List, [], ◌∷◌, ◌++◌, map, Option, Some, None, refl, sym, ◌∙◌, ap, subst, if◌then◌else◌}
+use Rattle.std.proofs.Common.{◌≡◌, ℕ, true, false, not, ◌&&◌, List, [], ◌∷◌, ◌++◌, map, Option, Some, None, refl, sym, ◌∙◌, ap, subst, if◌then◌else◌}
 use Rattle.std.specs.Prelude.{◌==◌}
 use Rattle.std.specs.List.{list_all, flat_map}
 use Rattle.std.specs.Option.{option_map_or, option_map}
 use Rattle.std.specs.Cmp.{first_so, second_so}
 use Rattle.std.proofs.lemmas.Bool.{false≢true}
-use Rattle.plank_base.specs.declared.places.Place.{Place}
 use Rattle.plank_lex.specs.declared.words.Reserved.TheVariants as word
 use Rattle.plank_lex.specs.Spelling.{word_of}
 use Rattle.plank_ast.specs.declared.names.Name.{Name}
@@ -22,7 +21,7 @@ use Rattle.plank_prog.specs.Blocks.{same_reference, writes_agree}
 use Rattle.plank_rules.specs.Declarations.{same_name, is_among, number_of, variables_of}
 use Rattle.plank_rules.specs.Faults.{wrong_kind}
 use Rattle.plank_rules.specs.Occurrences.{Occurrence, reference_occurrence, reference_place, repeats, others_than, others_than_first}
-use Rattle.plank_rules.specs.Meanings.{label_meaning, unknown_reference, unknown_field_name, misplaced}
+use Rattle.plank_rules.specs.Meanings.{reference_meaning, label_meaning, unknown_reference, unknown_field_name, misplaced}
 use Rattle.plank_rules.specs.Atoms.{is_unknown}
 use Rattle.plank_rules.specs.StatementRules.{access_meaning, written_rules, write_rules, write_heads, written_field, writes_rules}
 use Rattle.plank_rules.specs.MethodRules.{method_scope}
@@ -33,6 +32,7 @@ use Rattle.plank_type.proofs.Tests.{and_so, left_none, right_none}
 use Rattle.plank_type.proofs.Distinct.{when_none, when_rest, same_names, own_name}
 use Rattle.plank_type.proofs.NamesOnce.{numbered_among}
 use Rattle.plank_type.proofs.Tests.{not_false}
+use Rattle.plank_type.proofs.KnownMeanings.{dotted_known}
 use Rattle.plank_type.proofs.KeptPairs.{kept_pairs, both_pairs}
 use Rattle.plank_type.proofs.KnownNames.{numbers_apart, same_self, label_of, unrepeated}
 
@@ -86,27 +86,9 @@ module _ (m : Method) where
 
     -- ---- the names before the dots of writes
 
-    root_access : (t : Text) (p : Place) (field : Name) (flag pointer : Bool) → is_among (rules_header t).flags field.label ≡ flag → is_among (rules_header t).pointers field.label ≡ pointer → unknown_field_name (rules_header t) field ≡ [] → is_unknown (access_meaning (rules_header t) (method_scope m) (ReferenceTree.Root p) field) ≡ false
-    unfolding method_scope
-    root_access t p field true pointer e f h = rw e
-    root_access t p field false true e f h = rw (e, f)
-    root_access t p field false false e f h = let k = rw (e, f) at h in absurd (cc)
-
-    name_access : (t : Text) (name field : Name) (flag pointer known key : Bool) → is_among (rules_header t).flags field.label ≡ flag → is_among (rules_header t).pointers field.label ≡ pointer → is_among (method_scope m).nodes name.label ≡ known → is_among (method_scope m).keys name.label ≡ key → unknown_field_name (rules_header t) field ≡ [] → unknown_reference (method_scope m) (ReferenceTree.Name name) ≡ [] → is_unknown (access_meaning (rules_header t) (method_scope m) (ReferenceTree.Name name) field) ≡ false
-    unfolding method_scope
-    name_access t name field flag pointer false false e f g k h n = let x = rw (g, k) at n in absurd (cc)
-    name_access t name field false false known key e f g k h n = let x = rw (e, f) at h in absurd (cc)
-    name_access t name field true pointer true key e f g k h n = rw (e, g)
-    name_access t name field true pointer false true e f g k h n = rw (e, g, k)
-    name_access t name field false true true key e f g k h n = rw (e, f, g)
-    name_access t name field false true false true e f g k h n = rw (e, f, g, k)
-
     access_known : (t : Text) (q : ReferenceTree) (field : Name) → unknown_field_name (rules_header t) field ≡ [] → unknown_reference (method_scope m) q ≡ [] → is_unknown (access_meaning (rules_header t) (method_scope m) q field) ≡ false
-    access_known t (ReferenceTree.Root p) field h n =
-        root_access t p field (is_among (rules_header t).flags field.label) (is_among (rules_header t).pointers field.label) refl refl h
-    access_known t (ReferenceTree.Name name) field h n =
-        name_access t name field (is_among (rules_header t).flags field.label) (is_among (rules_header t).pointers field.label)
-        (is_among (method_scope m).nodes name.label) (is_among (method_scope m).keys name.label) refl refl refl refl h n
+    access_known t q field h n =
+        dotted_known (method_scope m).setting (reference_meaning (method_scope m) q) (label_meaning (rules_header t) field.label) (reference_place q) field.place n h
 
     headed : (t : Text) (u : WriteTree) → write_rules (rules_header t) (method_scope m) u ≡ [] → write_heads (rules_header t) (method_scope m) u ≡ reference_occurrence u.node ∷ []
     headed t u h =

@@ -1,10 +1,8 @@
 -- What the check of a text answers: its program, or the first rule that it breaks, or the first thing of which it has
 -- too much.
-use Rattle.std.specs.Prelude.{◌≡◌, ℕ, List, None, Some, ⊤}
+use Rattle.std.specs.Prelude.{◌≡◌, ℕ, None, Some, ⊤}
 use Rattle.plank_base.specs.declared.limits.Thing.{Thing}
 use Rattle.plank_ast.specs.declared.texts.Text.{Text}
-use Rattle.plank_prog.specs.declared.headers.Header.{Header}
-use Rattle.plank_prog.specs.declared.methods.Method.{Method}
 use Rattle.plank_prog.specs.declared.programs.Program.{Program}
 use Rattle.plank_rules.specs.BrokenRules.{broken_rules}
 use Rattle.plank_rules.specs.FirstOf.{first_of}
@@ -31,8 +29,3 @@ abbrev pub IsFaultOf : Text → TypeFault → Type 0
 IsFaultOf t (TypeFault.Broken kind place) = first_of (broken_rules t) ≡ Some (record { kind = kind; place = place })
 IsFaultOf t (TypeFault.TooMany thing count limit) = HasTooMuch t thing count limit
 IsFaultOf t TypeFault.OutOfMemory = ⊤
-
--- the header and the methods of a text
-pub record Lowered (t : Text) (h : Header) (ms : List Method) : Type 0 where
-  pub header : h ≡ header_of t
-  pub methods : ms ≡ methods_of t

@@ -1,5 +1,5 @@
 -- What the conditions of a header mean, with numbers in the place of names. A part that breaks a typing rule never holds.
-use Rattle.std.specs.Prelude.{Bool, true, false, ◌∷◌, Option, Some, None, if◌then◌else◌}
+use Rattle.std.specs.Prelude.{Bool, true, false, ◌∷◌, Option, Some, None}
 use Rattle.std.specs.Option.{option_map_or}
 use Rattle.plank_ast.specs.declared.names.Name.{Name}
 use Rattle.plank_ast.specs.declared.names.Field.{Field}
@@ -16,8 +16,6 @@ use Rattle.plank_prog.specs.declared.conditions.Condition.{Condition}
 use Rattle.plank_prog.specs.declared.conditions.Condition.TheVariants.{All, Any}
 use Rattle.plank_prog.specs.declared.conditions.KeyTerm.TheVariants as term
 use Rattle.plank_prog.specs.declared.conditions.KeyRelation.{KeyRelation}
-use Rattle.plank_prog.specs.declared.scopes.Scope.{Scope}
-use Rattle.plank_prog.specs.Scopes.{condition_fits}
 use Rattle.plank_rules.specs.declared.names.Declared.{Declared}
 use Rattle.plank_type.specs.declared.conditions.Asked.{Asked}
 use Rattle.plank_rules.specs.Declarations.{number_of}
@@ -75,23 +73,19 @@ condition_ended names first AtomEnd.Nothing = condition_alone true first
 condition_ended names first (AtomEnd.Compared comparison place second) = condition_compared first comparison (asked_of names second)
 condition_ended names first (AtomEnd.In place node) = Condition.Visited
 
--- a condition that asks for no more than its scope gives
-abbrev pub within_scope : Scope → Condition → Condition
-within_scope scope c = if condition_fits scope c then c else Condition.Constant false
+abbrev pub atom_condition : Declared → Atom → Condition
+atom_condition names a = condition_ended names (asked_of names a.operand) a.end
 
-abbrev pub atom_condition : Declared → Scope → Atom → Condition
-atom_condition names scope a = within_scope scope (condition_ended names (asked_of names a.operand) a.end)
-
-abbrev pub negated_condition : Declared → Scope → Name → Condition
-negated_condition names scope field = within_scope scope (condition_alone false (asked_field names field))
+abbrev pub negated_condition : Declared → Name → Condition
+negated_condition names field = condition_alone false (asked_field names field)
 
 -- one layer of a condition, its parts read already
-abbrev pub literal_step : Declared → Scope → Literal-F Condition Condition Condition → Condition
-literal_step names scope (Literal-F.True place) = Condition.Constant true
-literal_step names scope (Literal-F.False place) = Condition.Constant false
-literal_step names scope (Literal-F.Group place inner) = inner
-literal_step names scope (Literal-F.Not place node field) = negated_condition names scope field
-literal_step names scope (Literal-F.Atom atom) = atom_condition names scope atom
+abbrev pub literal_step : Declared → Literal-F Condition Condition Condition → Condition
+literal_step names (Literal-F.True place) = Condition.Constant true
+literal_step names (Literal-F.False place) = Condition.Constant false
+literal_step names (Literal-F.Group place inner) = inner
+literal_step names (Literal-F.Not place node field) = negated_condition names field
+literal_step names (Literal-F.Atom atom) = atom_condition names atom
 
 abbrev pub condition_step : Condition-F Condition Condition Condition → Condition
 condition_step c = Any (c.first ∷ c.others)
@@ -99,11 +93,11 @@ condition_step c = Any (c.first ∷ c.others)
 abbrev pub conjunction_step : Conjunction-F Condition Condition Condition → Condition
 conjunction_step c = All (c.first ∷ c.others)
 
-abbrev pub condition_of : Declared → Scope → ConditionTree → Condition
-condition_of names scope = fold-Condition Condition Condition Condition (literal_step names scope) condition_step conjunction_step
+abbrev pub condition_of : Declared → ConditionTree → Condition
+condition_of names = fold-Condition Condition Condition Condition (literal_step names) condition_step conjunction_step
 
-abbrev pub conjunction_of : Declared → Scope → Conjunction → Condition
-conjunction_of names scope = fold-Conjunction Condition Condition Condition (literal_step names scope) condition_step conjunction_step
+abbrev pub conjunction_of : Declared → Conjunction → Condition
+conjunction_of names = fold-Conjunction Condition Condition Condition (literal_step names) condition_step conjunction_step
 
-abbrev pub literal_of : Declared → Scope → Literal → Condition
-literal_of names scope = fold-Literal Condition Condition Condition (literal_step names scope) condition_step conjunction_step
+abbrev pub literal_of : Declared → Literal → Condition
+literal_of names = fold-Literal Condition Condition Condition (literal_step names) condition_step conjunction_step

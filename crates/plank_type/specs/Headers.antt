@@ -1,5 +1,5 @@
 -- The header of a text, with numbers in the place of names.
-use Rattle.std.specs.Prelude.{ℕ, ◌+◌, ◌*◌, Bool, true, false, ◌&&◌, List, [], ◌∷◌, length, map, Option, Some, None, unwrap_or, if◌then◌else◌}
+use Rattle.std.specs.Prelude.{ℕ, ◌+◌, ◌*◌, Bool, false, ◌&&◌, List, [], ◌∷◌, map, Option, Some, None, unwrap_or, if◌then◌else◌}
 use Rattle.std.specs.List.{list_any}
 use Rattle.std.specs.Option.{option_map}
 use Rattle.plank_base.specs.declared.keys.Key.{Key}
@@ -19,25 +19,10 @@ use Rattle.plank_prog.specs.declared.headers.Pointer.{Pointer}
 use Rattle.plank_prog.specs.declared.headers.StartNode.{StartNode}
 use Rattle.plank_prog.specs.declared.headers.Keep.{Keep}
 use Rattle.plank_prog.specs.declared.headers.Header.{Header}
-use Rattle.plank_prog.specs.declared.scopes.Scope.{Scope}
 use Rattle.plank_rules.specs.declared.names.Declared.{Declared}
 use Rattle.plank_rules.specs.Declarations.{same_name, number_of}
 use Rattle.plank_type.specs.Numbers.{names_of}
 use Rattle.plank_type.specs.Conditions.{condition_of}
-
--- ---- what conditions may ask for
-
--- conditions on edges and on ends of walks
-abbrev pub walk_scope_of : Declared → Scope
-walk_scope_of names = record { flags = length names.flags; pointers = 0; walked = true; visited = false }
-
--- the condition of frozen nodes
-abbrev pub freeze_scope_of : Declared → Scope
-freeze_scope_of names = record { flags = length names.flags; pointers = 0; walked = false; visited = false }
-
--- keeps
-abbrev pub keep_scope_of : Declared → Scope
-keep_scope_of names = record { flags = length names.flags; pointers = length names.pointers; walked = true; visited = true }
 
 -- ---- pointer fields
 
@@ -50,7 +35,7 @@ order_of Direction.Free = KeyOrder.Free
 abbrev pub edge_of : Declared → List NamedCondition → List ℕ → Option Condition
 edge_of names [] pointer = None
 edge_of names (line ∷ lines) pointer =
-    if same_name pointer line.name.label then Some (condition_of names (walk_scope_of names) line.condition)
+    if same_name pointer line.name.label then Some (condition_of names line.condition)
     else edge_of names lines pointer
 
 abbrev pub pointer_of : Declared → List NamedCondition → PointerLine → Pointer
@@ -105,10 +90,10 @@ root_of nodes (line ∷ lines) = unwrap_or (number_of line.name.label nodes) 0
 -- ---- the header
 
 abbrev pub keep_of : Declared → NamedCondition → Keep
-keep_of names line = record { name = line.name.label; condition = condition_of names (keep_scope_of names) line.condition }
+keep_of names line = record { name = line.name.label; condition = condition_of names line.condition }
 
 abbrev pub freeze_of : Declared → Option ConditionLine → Option Condition
-freeze_of names line = option_map (λ l. condition_of names (freeze_scope_of names) l.condition) line
+freeze_of names line = option_map (λ l. condition_of names l.condition) line
 
 abbrev pub header_with : Declared → Text → Header
 header_with names t = record {
@@ -117,7 +102,7 @@ header_with names t = record {
   has_lock = names.has_lock;
   nodes = map (start_node_of names) t.starts;
   root = root_of names.nodes t.roots;
-  holds = condition_of names (walk_scope_of names) t.holds.condition;
+  holds = condition_of names t.holds.condition;
   keeps = map (keep_of names) t.keeps;
   freeze = freeze_of names t.freeze;
 }

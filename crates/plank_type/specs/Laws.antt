@@ -10,6 +10,7 @@ use Rattle.plank_type.specs.Numbers.{names_of, HasFewNames}
 use Rattle.plank_type.specs.Headers.{header_of}
 use Rattle.plank_type.specs.Limits.{text_excess, first_excess, IsSmall}
 use Rattle.plank_type.specs.Methods.{methods_of}
+use Rattle.plank_type.specs.Told.{IsToldWhole}
 
 -- a text within the limits that its tree shows
 pub record IsWithin (t : Text) : Type 0 where
@@ -29,3 +30,7 @@ HeadersAreLawful = (t : Text) → broken_rules t ≡ [] → text_excess t ≡ No
 -- the methods of such a text are lawful
 abbrev pub MethodsAreLawful : Type 0
 MethodsAreLawful = (t : Text) → broken_rules t ≡ [] → first_excess t ≡ None → are_lawful_methods (header_of t) (methods_of t) ≡ true
+
+-- a text that breaks no rule of typing is told whole in its program
+abbrev pub TextsAreToldWhole : Type 0
+TextsAreToldWhole = (t : Text) → broken_rules t ≡ [] → IsToldWhole t

@@ -5,5 +5,6 @@ pub mod Operands
 pub mod Statements
 pub mod Methods
 pub mod Limits
+pub mod Told
 pub mod Laws
 pub mod Checks

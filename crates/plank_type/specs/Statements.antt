@@ -5,11 +5,8 @@ use Rattle.std.specs.Option.{option_map_or, option_to_list}
 use Rattle.plank_base.specs.declared.places.Place.{Place}
 use Rattle.plank_ast.specs.declared.names.Reference.{Reference as ReferenceTree}
 use Rattle.plank_ast.specs.declared.statements.Assigned.{Assigned}
-use Rattle.plank_ast.specs.declared.statements.With.{With}
-use Rattle.plank_ast.specs.declared.statements.TestLine.{TestLine}
 use Rattle.plank_ast.specs.declared.statements.Tests.{Tests}
-use Rattle.plank_ast.specs.declared.statements.Bind.{Bind as BindTree}
-use Rattle.plank_ast.specs.declared.statements.Write.{Write as WriteTree}
+use Rattle.plank_ast.specs.declared.statements.Block.{Block as BlockTree}
 use Rattle.plank_ast.specs.declared.statements.Statement.{Statement}
 use Rattle.plank_ast.specs.declared.statements.Body.{Body}
 use Rattle.plank_ast.specs.declared.statements.Else.{Else}
@@ -65,12 +62,12 @@ assignment names variables variable (Assigned.Node node None) next =
 assignment names variables variable (Assigned.Node node (Some field)) next =
     Action.Block (read_block names variables variable node field.label next)
 
-abbrev pub atomic_block : Declared → List (List ℕ) → Option With → List TestLine → List BindTree → List WriteTree → ℕ → ℕ → Block
-atomic_block names variables with_names tests binds writes met other = record {
-  with = with_of variables with_names;
-  tests = map (λ line. test_of names variables line.test) tests;
-  binds = binds_of names variables binds;
-  writes = writes_of names variables writes;
+abbrev pub atomic_block : Declared → List (List ℕ) → BlockTree → ℕ → ℕ → Block
+atomic_block names variables tree met other = record {
+  with = with_of variables tree.with;
+  tests = map (λ line. test_of names variables line.test) tree.tests;
+  binds = binds_of names variables tree.binds;
+  writes = writes_of names variables tree.writes;
   yes = met;
   no = other;
 }
@@ -165,14 +162,14 @@ if_part place tests body otherwise = record {
       ++ otherwise.locations names variables count (at + 1 + body.size) exits;
 }
 
-abbrev pub atomic_part : Place → Option With → List TestLine → List BindTree → List WriteTree → Part → Part
-atomic_part place with_names tests binds writes otherwise = record {
+abbrev pub atomic_part : Place → BlockTree → Part → Part
+atomic_part place tree otherwise = record {
   size = 1 + otherwise.size;
   entry = λ at exits. at;
   locations = λ names variables count at exits.
       (record {
         place = place;
-        action = Action.Block (atomic_block names variables with_names tests binds writes
+        action = Action.Block (atomic_block names variables tree
             (exit_within count at exits.next) (exit_within count at (otherwise.entry (at + 1) exits)));
       })
       ∷ otherwise.locations names variables count (at + 1) exits;
@@ -201,8 +198,7 @@ else_step (Else-F.Body place body) = body
 abbrev pub statement_step : Statement-F Part Part Part → Part
 statement_step (Statement-F.Assign variable value) =
     step_part variable.place (λ names variables count at exits. assignment names variables variable.label value (exit_within count at exits.next))
-statement_step (Statement-F.Atomic place with_names tests binds writes otherwise) =
-    atomic_part place with_names tests binds writes otherwise
+statement_step (Statement-F.Atomic place tree otherwise) = atomic_part place tree otherwise
 statement_step (Statement-F.Lock place node) =
     step_part place (λ names variables count at exits. Action.Block (take_lock names (reference_of variables node) (exit_within count at exits.next) at))
 statement_step (Statement-F.Unlock place node) =

@@ -1,21 +1,18 @@
-ghost use Rattle.std.specs.Prelude.{◌≡◌, None, true, IfOk, IfErr, OnOk};
+ghost use Rattle.std.specs.Prelude.{◌≡◌, None, true, IfOk, IfErr};
 ghost use Rattle.plank_prog.specs.Headers.{is_lawful_header};
 ghost use Rattle.plank_prog.specs.Methods.{are_lawful_methods};
-ghost use Rattle.plank_rules.specs.BrokenRules.{declared_by, broken_rules};
-ghost use Rattle.plank_rules.specs.FirstOf.{first_of};
 ghost use Rattle.plank_type.specs.declared.faults.TypeFault.TheVariants as fault;
-ghost use Rattle.plank_type.specs.Limits.{text_excess, first_excess};
-ghost use Rattle.plank_type.specs.Checks.{IsProgramOf, IsFaultOf, Lowered};
+ghost use Rattle.plank_type.specs.Limits.{first_excess};
+ghost use Rattle.plank_type.specs.Checks.{IsProgramOf, IsFaultOf};
 
 use crate::faults::TypeFault;
-use crate::headers::header_of;
-use crate::limits::{Excess, program_excess, text_excess};
-use crate::methods::methods_of;
-use crate::names::{Numbers, copied};
+use crate::limits::{Excess, Limited, within_limits};
+use crate::lowering::{Lowered, lower};
+use crate::names::copied;
 use plank_ast::Text;
-use plank_base::{Label, OutOfMemory};
+use plank_base::Label;
 use plank_prog::{Header, Method, Program};
-use plank_rules::{Declared, declared_by, first_broken};
+use plank_rules::{Typed, Untyped, checked};
 use sqlite_items::Items;
 use std::alloc::Global;
 
@@ -25,36 +22,10 @@ pub fn check(alloc: Global, text: &Text) -> Result<Program, TypeFault>
     ensures program { IfOk result (IsProgramOf text.now) }
     ensures fault { IfErr result (IsFaultOf text.now) }
 {
-    let declared = declared_by(alloc, text)?;
-    let checked = check_declared(alloc, &declared, text);
-    drop(declared);
-    checked
-}
-
-// The check of a text that declares these names.
-fn check_declared(alloc: Global, declared: &Declared<'_>, text: &Text) -> Result<Program, TypeFault>
-    requires declared { declared.now ≡ declared_by text.now }
-    ensures program { IfOk result (IsProgramOf text.now) }
-    ensures fault { IfErr result (IsFaultOf text.now) }
-{
-    if let Err(fault) = check_rules(alloc, declared, text) {
-        return Err(fault);
-    }
-    if let Err(fault) = check_limits(text) {
-        return Err(fault);
-    }
-    program_of(alloc, declared, text)
-}
-
-fn check_rules(alloc: Global, declared: &Declared<'_>, text: &Text) -> Result<(), TypeFault>
-    requires declared { declared.now ≡ declared_by text.now }
-    ensures typed { OnOk result (first_of (broken_rules text.now) ≡ None) }
-    ensures fault { IfErr result (IsFaultOf text.now) }
-{
-    match first_broken(alloc, declared, text) {
-        Ok(None) => Ok(()),
-        Ok(Some(broken)) => Err(TypeFault::Broken(broken.kind, broken.place)),
-        Err(_) => Err(TypeFault::OutOfMemory),
+    match checked(alloc, text) {
+        Ok(typed) => typed_program(alloc, &typed),
+        Err(Untyped::Broken(broken)) => Err(TypeFault::Broken(broken.kind, broken.place)),
+        Err(Untyped::OutOfMemory) => Err(TypeFault::OutOfMemory),
     }
 }
 
@@ -64,33 +35,42 @@ fn too_many(excess: Excess) -> TypeFault
     TypeFault::TooMany(excess.thing, excess.count, excess.limit)
 }
 
-// The limits that the tree shows.
-fn check_limits(text: &Text) -> Result<(), TypeFault>
-    requires typed { first_of (broken_rules text.now) ≡ None }
-    ensures within { OnOk result (text_excess text.now ≡ None) }
-    ensures fault { IfErr result (IsFaultOf text.now) }
+// The program of a well typed text, where the tree shows too much of nothing.
+fn typed_program(alloc: Global, typed: &Typed<'_>) -> Result<Program, TypeFault>
+    ensures program { IfOk result (IsProgramOf typed.now.text.now) }
+    ensures fault { IfErr result (IsFaultOf typed.now.text.now) }
 {
-    match text_excess(text) {
-        None => Ok(()),
-        Some(excess) => Err(too_many(excess)),
+    match within_limits(typed) {
+        Ok(limited) => limited_program(alloc, limited),
+        Err(excess) => Err(too_many(excess)),
     }
 }
 
-// The header and the methods, with numbers in the place of names.
-fn lowered(
-    alloc: Global,
-    declared: &Declared<'_>,
-    text: &Text,
-) -> Result<(Header, Items<Method>), OutOfMemory>
-    requires declared { declared.now ≡ declared_by text.now }
-    requires typed { first_of (broken_rules text.now) ≡ None }
-    requires within { text_excess text.now ≡ None }
-    ensures { IfOk result (λ parts. Lowered text.now parts.0 parts.1) }
+// The program of a well typed text within the limits of its tree, where the program has not too many
+// sites or facts.
+fn limited_program(alloc: Global, limited: Limited<'_>) -> Result<Program, TypeFault>
+    ensures program { IfOk result (IsProgramOf limited.entry.typed.now.text.now) }
+    ensures fault { IfErr result (IsFaultOf limited.entry.typed.now.text.now) }
 {
-    let names = Numbers::new(text, declared);
-    let header = header_of(alloc, &names, text)?;
-    let methods = methods_of(alloc, &names, text)?;
-    Ok((header, methods))
+    let lowered = match lower(alloc, limited) {
+        Ok(lowered) => lowered,
+        Err(_) => return Err(TypeFault::OutOfMemory),
+    };
+    match lowered.excess() {
+        Some(excess) => Err(too_many(excess)),
+        None => named_program(alloc, lowered),
+    }
+}
+
+fn named_program(alloc: Global, lowered: Lowered<'_>) -> Result<Program, TypeFault>
+    requires limits { first_excess lowered.limited.typed.now.text.now ≡ None }
+    ensures program { IfOk result (IsProgramOf lowered.entry.limited.typed.now.text.now) }
+    ensures fault { IfErr result (IsFaultOf lowered.entry.limited.typed.now.text.now) }
+{
+    match copied(alloc, &lowered.limited.typed.text.structure.label) {
+        Ok(name) => Ok(lawful_program(name, lowered.header, lowered.methods)),
+        Err(_) => Err(TypeFault::OutOfMemory),
+    }
 }
 
 fn lawful_program(name: Label, header: Header, methods: Items<Method>) -> Program
@@ -104,55 +84,5 @@ fn lawful_program(name: Label, header: Header, methods: Items<Method>) -> Progra
         name,
         header,
         methods,
-    }
-}
-
-fn program_of(alloc: Global, declared: &Declared<'_>, text: &Text) -> Result<Program, TypeFault>
-    requires declared { declared.now ≡ declared_by text.now }
-    requires typed { first_of (broken_rules text.now) ≡ None }
-    requires within { text_excess text.now ≡ None }
-    ensures program { IfOk result (IsProgramOf text.now) }
-    ensures fault { IfErr result (IsFaultOf text.now) }
-{
-    match lowered(alloc, declared, text) {
-        Ok((header, methods)) => limited_program(alloc, text, header, methods),
-        Err(_) => Err(TypeFault::OutOfMemory),
-    }
-}
-
-// The program of these parts, where it has not too many sites or facts.
-fn limited_program(
-    alloc: Global,
-    text: &Text,
-    header: Header,
-    methods: Items<Method>,
-) -> Result<Program, TypeFault>
-    requires typed { first_of (broken_rules text.now) ≡ None }
-    requires within { text_excess text.now ≡ None }
-    requires lowered { Lowered text.now header methods }
-    ensures program { IfOk result (IsProgramOf text.now) }
-    ensures fault { IfErr result (IsFaultOf text.now) }
-{
-    match program_excess(&header, methods.as_slice()) {
-        Some(excess) => Err(too_many(excess)),
-        None => named_program(alloc, text, header, methods),
-    }
-}
-
-fn named_program(
-    alloc: Global,
-    text: &Text,
-    header: Header,
-    methods: Items<Method>,
-) -> Result<Program, TypeFault>
-    requires typed { first_of (broken_rules text.now) ≡ None }
-    requires limits { first_excess text.now ≡ None }
-    requires lowered { Lowered text.now header methods }
-    ensures program { IfOk result (IsProgramOf text.now) }
-    ensures fault { IfErr result (IsFaultOf text.now) }
-{
-    match copied(alloc, &text.structure.label) {
-        Ok(name) => Ok(lawful_program(name, header, methods)),
-        Err(_) => Err(TypeFault::OutOfMemory),
     }
 }

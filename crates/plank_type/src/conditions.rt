@@ -1,5 +1,5 @@
 ghost use Rattle.std.specs.Prelude.{◌≡◌, false, true, IfOk};
-ghost use Rattle.plank_type.specs.Conditions.{relation_of, is_equality, asked_field, asked_part, asked_of, condition_compared, condition_alone, condition_ended, within_scope, atom_condition, negated_condition, condition_of, conjunction_of, literal_of};
+ghost use Rattle.plank_type.specs.Conditions.{relation_of, is_equality, asked_field, asked_part, asked_of, condition_compared, condition_alone, condition_ended, atom_condition, negated_condition, condition_of, conjunction_of, literal_of};
 
 use crate::names::Numbers;
 use plank_ast::{
@@ -7,7 +7,7 @@ use plank_ast::{
     Operand,
 };
 use plank_base::OutOfMemory;
-use plank_prog::{Condition, KeyRelation, KeyTerm, Scope};
+use plank_prog::{Condition, KeyRelation, KeyTerm};
 use sqlite_items::Items;
 use std::alloc::Global;
 
@@ -131,28 +131,17 @@ fn condition_ended(names: &Numbers<'_>, first: Asked, end: &AtomEnd) -> Conditio
     }
 }
 
-// A condition that asks for no more than its scope gives.
-fn within_scope(scope: Scope, condition: Condition) -> Condition
-    ensures { result ≡ within_scope scope condition }
-{
-    if condition.fits(scope) {
-        condition
-    } else {
-        Condition::Constant(false)
-    }
-}
-
-fn atom_condition(names: &Numbers<'_>, scope: Scope, atom: &Atom) -> Condition
-    ensures { result ≡ atom_condition names.now scope atom.now }
+fn atom_condition(names: &Numbers<'_>, atom: &Atom) -> Condition
+    ensures { result ≡ atom_condition names.now atom.now }
 {
     let first = asked_of(names, &atom.operand);
-    within_scope(scope, condition_ended(names, first, &atom.end))
+    condition_ended(names, first, &atom.end)
 }
 
-fn negated_condition(names: &Numbers<'_>, scope: Scope, field: &Name) -> Condition
-    ensures { result ≡ negated_condition names.now scope field.now }
+fn negated_condition(names: &Numbers<'_>, field: &Name) -> Condition
+    ensures { result ≡ negated_condition names.now field.now }
 {
-    within_scope(scope, condition_alone(false, asked_field(names, field)))
+    condition_alone(false, asked_field(names, field))
 }
 
 /// A condition of a header, with numbers in the place of names.
@@ -160,15 +149,14 @@ fn negated_condition(names: &Numbers<'_>, scope: Scope, field: &Name) -> Conditi
 pub(crate) fn condition_of(
     alloc: Global,
     names: &Numbers<'_>,
-    scope: Scope,
     condition: &ConditionTree,
 ) -> Result<Condition, OutOfMemory>
-    ensures { IfOk result (λ c. c ≡ condition_of names.now scope condition.now) }
+    ensures { IfOk result (λ c. c ≡ condition_of names.now condition.now) }
 {
     let mut parts = Items::new(alloc);
-    parts.push(conjunction_of(alloc, names, scope, &condition.first)?)?;
+    parts.push(conjunction_of(alloc, names, &condition.first)?)?;
     for conjunction in condition.others.as_slice() {
-        parts.push(conjunction_of(alloc, names, scope, conjunction)?)?;
+        parts.push(conjunction_of(alloc, names, conjunction)?)?;
     }
     Ok(Condition::Any(parts))
 }
@@ -177,15 +165,14 @@ pub(crate) fn condition_of(
 fn conjunction_of(
     alloc: Global,
     names: &Numbers<'_>,
-    scope: Scope,
     conjunction: &Conjunction,
 ) -> Result<Condition, OutOfMemory>
-    ensures { IfOk result (λ c. c ≡ conjunction_of names.now scope conjunction.now) }
+    ensures { IfOk result (λ c. c ≡ conjunction_of names.now conjunction.now) }
 {
     let mut parts = Items::new(alloc);
-    parts.push(literal_of(alloc, names, scope, &conjunction.first)?)?;
+    parts.push(literal_of(alloc, names, &conjunction.first)?)?;
     for literal in conjunction.others.as_slice() {
-        parts.push(literal_of(alloc, names, scope, literal)?)?;
+        parts.push(literal_of(alloc, names, literal)?)?;
     }
     Ok(Condition::All(parts))
 }
@@ -194,16 +181,15 @@ fn conjunction_of(
 fn literal_of(
     alloc: Global,
     names: &Numbers<'_>,
-    scope: Scope,
     literal: &Literal,
 ) -> Result<Condition, OutOfMemory>
-    ensures { IfOk result (λ c. c ≡ literal_of names.now scope literal.now) }
+    ensures { IfOk result (λ c. c ≡ literal_of names.now literal.now) }
 {
     match literal {
         Literal::True(_) => Ok(Condition::Constant(true)),
         Literal::False(_) => Ok(Condition::Constant(false)),
-        Literal::Group { inner, .. } => condition_of(alloc, names, scope, inner.get()),
-        Literal::Not { field, .. } => Ok(negated_condition(names, scope, field)),
-        Literal::Atom(atom) => Ok(atom_condition(names, scope, atom)),
+        Literal::Group { inner, .. } => condition_of(alloc, names, inner.get()),
+        Literal::Not { field, .. } => Ok(negated_condition(names, field)),
+        Literal::Atom(atom) => Ok(atom_condition(names, atom)),
     }
 }

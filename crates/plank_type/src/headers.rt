@@ -1,48 +1,16 @@
-ghost use Rattle.std.specs.Prelude.{◌≡◌, length, map, IfOk};
+ghost use Rattle.std.specs.Prelude.{◌≡◌, map, IfOk};
 ghost use Rattle.plank_type.specs.Numbers.{names_of};
-ghost use Rattle.plank_type.specs.Headers.{walk_scope_of, freeze_scope_of, keep_scope_of, order_of, edge_of, pointer_of, keep_of, freeze_of, header_of};
+ghost use Rattle.plank_type.specs.Headers.{order_of, edge_of, pointer_of, keep_of, freeze_of, header_of};
 
 use crate::conditions::condition_of;
+use crate::limits::Limited;
 use crate::names::{Numbers, copied, flag_names};
 use crate::start_nodes::{root_of, start_nodes_of};
 use plank_ast::{ConditionLine, Direction, NamedCondition, PointerLine, Text};
 use plank_base::{Label, OutOfMemory};
-use plank_prog::{Condition, Header, Keep, KeyOrder, Pointer, Scope};
+use plank_prog::{Condition, Header, Keep, KeyOrder, Pointer};
 use sqlite_items::Items;
 use std::alloc::Global;
-
-fn walk_scope_of(names: &Numbers<'_>) -> Scope
-    ensures { result ≡ walk_scope_of names.now }
-{
-    Scope {
-        flags: names.flag_count(),
-        pointers: 0,
-        walked: true,
-        visited: false,
-    }
-}
-
-fn freeze_scope_of(names: &Numbers<'_>) -> Scope
-    ensures { result ≡ freeze_scope_of names.now }
-{
-    Scope {
-        flags: names.flag_count(),
-        pointers: 0,
-        walked: false,
-        visited: false,
-    }
-}
-
-fn keep_scope_of(names: &Numbers<'_>) -> Scope
-    ensures { result ≡ keep_scope_of names.now }
-{
-    Scope {
-        flags: names.flag_count(),
-        pointers: names.pointer_count(),
-        walked: true,
-        visited: true,
-    }
-}
 
 fn order_of(direction: Direction) -> KeyOrder
     ensures { result ≡ order_of direction }
@@ -65,7 +33,7 @@ fn edge_of(
 {
     for line in edges {
         if *pointer == line.name.label {
-            let condition = condition_of(alloc, names, walk_scope_of(names), &line.condition)?;
+            let condition = condition_of(alloc, names, &line.condition)?;
             return Ok(Some(condition));
         }
     }
@@ -108,7 +76,7 @@ fn keep_of(alloc: Global, names: &Numbers<'_>, line: &NamedCondition) -> Result<
     ensures { IfOk result (λ keep. keep ≡ keep_of names.now line.now) }
 {
     let name = copied(alloc, &line.name.label)?;
-    let condition = condition_of(alloc, names, keep_scope_of(names), &line.condition)?;
+    let condition = condition_of(alloc, names, &line.condition)?;
     Ok(Keep { name, condition })
 }
 
@@ -134,20 +102,20 @@ fn freeze_of(
     ensures { IfOk result (λ freeze. freeze ≡ freeze_of names.now line.now) }
 {
     match line {
-        Some(line) => {
-            let scope = freeze_scope_of(names);
-            Ok(Some(condition_of(alloc, names, scope, &line.condition)?))
-        }
+        Some(line) => Ok(Some(condition_of(alloc, names, &line.condition)?)),
         None => Ok(None),
     }
 }
 
-/// The header of a text whose names are few enough, and are these.
-pub(crate) fn header_of(
-    alloc: Global,
-    names: &Numbers<'_>,
-    text: &Text,
-) -> Result<Header, OutOfMemory>
+/// The header of a well typed text within the limits.
+pub(crate) fn header_of(alloc: Global, limited: Limited<'_>) -> Result<Header, OutOfMemory>
+    ensures { IfOk result (λ header. header ≡ header_of limited.entry.typed.now.text.now) }
+{
+    let numbers = Numbers::new(limited);
+    header_with(alloc, &numbers, limited.typed.text)
+}
+
+fn header_with(alloc: Global, names: &Numbers<'_>, text: &Text) -> Result<Header, OutOfMemory>
     requires names { names.now ≡ names_of text.now }
     ensures { IfOk result (λ header. header ≡ header_of text.now) }
 {
@@ -158,7 +126,7 @@ pub(crate) fn header_of(
         text.pointers.as_slice(),
     )?;
     let nodes = start_nodes_of(alloc, names, text.starts.as_slice())?;
-    let holds = condition_of(alloc, names, walk_scope_of(names), &text.holds.condition)?;
+    let holds = condition_of(alloc, names, &text.holds.condition)?;
     let keeps = keeps_of(alloc, names, text.keeps.as_slice())?;
     let freeze = freeze_of(alloc, names, &text.freeze)?;
     let flags = flag_names(alloc, text.flags.as_slice())?;

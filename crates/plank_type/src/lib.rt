@@ -8,6 +8,7 @@ mod faults;
 mod headers;
 mod laws;
 mod limits;
+mod lowering;
 mod methods;
 mod names;
 mod operands;
@@ -18,5 +19,5 @@ mod steps;
 
 pub use checking::check;
 pub use faults::TypeFault;
-pub use laws::{headers_are_lawful, limits_hold, methods_are_lawful};
+pub use laws::{headers_are_lawful, limits_hold, methods_are_lawful, texts_are_told_whole};
 pub use limits::Excess;

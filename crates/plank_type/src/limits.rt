@@ -1,17 +1,14 @@
-ghost use Rattle.std.specs.Prelude.{◌≡◌, ◌≤◌, length, sum_by};
+ghost use Rattle.std.specs.Prelude.{◌≡◌, None, Some, IfOk, IfErr, length};
 ghost use Rattle.plank_base.specs.declared.limits.TheConstants.{FLAGS_LIMIT, POINTERS_LIMIT};
-ghost use Rattle.plank_prog.specs.Methods.{site_count};
-ghost use Rattle.plank_rules.specs.Declarations.{declared_variables};
-ghost use Rattle.plank_type.specs.Limits.{told, past_limit, first_given, variables_limit, variables_excess, header_excess, methods_excess, text_size, text_excess, sites_excess, facts_excess, method_facts_excess, program_excess};
-ghost use Rattle.plank_type.specs.Methods.{method_size};
+ghost use Rattle.plank_type.specs.Limits.{told, past_limit, first_given, variables_limit, variables_excess, header_excess, methods_excess, text_size, text_excess};
 
 use crate::sizes::statements_size;
 use plank_ast::{Method as MethodTree, Text};
 use plank_base::{
-    EFFECT_FACTS_LIMIT, FLAGS_LIMIT, FROZEN_VARIABLES_LIMIT, LOCATIONS_LIMIT, METHODS_LIMIT,
-    NODES_LIMIT, POINTERS_LIMIT, SITES_LIMIT, Thing, VARIABLES_LIMIT,
+    FLAGS_LIMIT, FROZEN_VARIABLES_LIMIT, LOCATIONS_LIMIT, METHODS_LIMIT, NODES_LIMIT,
+    POINTERS_LIMIT, Thing, VARIABLES_LIMIT,
 };
-use plank_prog::{Action, Header, Method};
+use plank_rules::Typed;
 
 /// What a text has too much of, how many, and how many it may have.
 #[derive(Clone, Copy, Debug, PartialEq, Eq)]
@@ -22,8 +19,8 @@ pub struct Excess {
     pub limit: u32,
 }
 
-// A length as it is told.
-fn told(length: usize) -> u32
+/// A length as it is told.
+pub(crate) fn told(length: usize) -> u32
     ensures { result ≡ told length }
 {
     if length <= u32::MAX as usize {
@@ -33,7 +30,7 @@ fn told(length: usize) -> u32
     }
 }
 
-fn past_limit(thing: Thing, count: u32, limit: u32) -> Option<Excess>
+pub(crate) fn past_limit(thing: Thing, count: u32, limit: u32) -> Option<Excess>
     ensures { result ≡ past_limit thing count limit }
 {
     if count <= limit {
@@ -117,8 +114,8 @@ fn text_size(text: &Text) -> u32
     size
 }
 
-/// What a text has too much of, as its tree shows it.
-pub(crate) fn text_excess(text: &Text) -> Option<Excess>
+// What a text has too much of, as its tree shows it.
+fn text_excess(text: &Text) -> Option<Excess>
     ensures { result ≡ text_excess text.now }
 {
     if let Some(excess) = methods_excess(text) {
@@ -130,69 +127,20 @@ pub(crate) fn text_excess(text: &Text) -> Option<Excess>
     past_limit(Thing::Locations, text_size(text), LOCATIONS_LIMIT)
 }
 
-fn sites_excess(methods: &[Method]) -> Option<Excess>
-    ensures { result ≡ sites_excess methods.now }
-{
-    let mut count: u32 = 0;
-    for method in methods {
-        count = count.saturating_add(told(method.site_count()));
-    }
-    past_limit(Thing::Sites, count, SITES_LIMIT)
+/// A well typed text whose tree shows too much of nothing.
+#[derive(Clone, Copy, Debug)]
+pub(crate) struct Limited<'a> {
+    pub(crate) typed: &'a Typed<'a>,
+    pub(crate) ghost within: { text_excess typed.now.text.now ≡ None },
 }
 
-fn facts_excess(header: &Header, action: &Action) -> Option<Excess>
-    requires flags { length header.now.flags ≤ FLAGS_LIMIT }
-    requires pointers { length header.now.pointers ≤ POINTERS_LIMIT }
-    ensures { result ≡ facts_excess header.now action.now }
+/// The same text, or what its tree shows too much of.
+pub(crate) fn within_limits<'a>(typed: &'a Typed<'a>) -> Result<Limited<'a>, Excess>
+    ensures typed { IfOk result (λ limited. limited.typed.now ≡ typed.now) }
+    ensures excess { IfErr result (λ excess. text_excess typed.now.text.now ≡ Some excess) }
 {
-    match action {
-        Action::Block(block) => {
-            if block.writes.is_empty() {
-                return None;
-            }
-            let count = header.effect_fact_count(block.name_count());
-            past_limit(Thing::EffectFacts, count, EFFECT_FACTS_LIMIT)
-        }
-        Action::Copy { .. } => None,
-        Action::New { .. } => None,
-        Action::Return(_) => None,
+    match text_excess(typed.text) {
+        None => Ok(Limited { typed }),
+        Some(excess) => Err(excess),
     }
-}
-
-fn method_facts_excess(header: &Header, method: &Method) -> Option<Excess>
-    requires flags { length header.now.flags ≤ FLAGS_LIMIT }
-    requires pointers { length header.now.pointers ≤ POINTERS_LIMIT }
-    ensures { result ≡ method_facts_excess header.now method.now }
-{
-    for location in method.locations.as_slice() {
-        if let Some(excess) = facts_excess(header, &location.action) {
-            return Some(excess);
-        }
-    }
-    None
-}
-
-fn first_facts_excess(header: &Header, methods: &[Method]) -> Option<Excess>
-    requires flags { length header.now.flags ≤ FLAGS_LIMIT }
-    requires pointers { length header.now.pointers ≤ POINTERS_LIMIT }
-    ensures { result ≡ first_given (method_facts_excess header.now) methods.now }
-{
-    for method in methods {
-        if let Some(excess) = method_facts_excess(header, method) {
-            return Some(excess);
-        }
-    }
-    None
-}
-
-/// What a program has too much of.
-pub(crate) fn program_excess(header: &Header, methods: &[Method]) -> Option<Excess>
-    requires flags { length header.now.flags ≤ FLAGS_LIMIT }
-    requires pointers { length header.now.pointers ≤ POINTERS_LIMIT }
-    ensures { result ≡ program_excess header.now methods.now }
-{
-    if let Some(excess) = sites_excess(methods) {
-        return Some(excess);
-    }
-    first_facts_excess(header, methods)
 }

@@ -1,17 +1,17 @@
 ghost use Rattle.std.specs.Prelude.{◌≡◌, ◌≤◌, ◌∷◌, All, length, map, IfOk};
 ghost use Rattle.plank_rules.specs.Declarations.{variable_line, variables_of};
 ghost use Rattle.plank_base.specs.declared.limits.TheConstants.{VARIABLES_LIMIT, LOCATIONS_LIMIT};
-ghost use Rattle.plank_type.specs.Numbers.{names_of};
 ghost use Rattle.plank_type.specs.Statements.{statements_size, statements_locations};
 ghost use Rattle.plank_type.specs.Limits.{IsSmall};
 ghost use Rattle.plank_type.specs.Methods.{end_exits, kind_word, kind_of, method_of, methods_of};
 
 use crate::exits::Exits;
+use crate::limits::Limited;
 use crate::names::{Numbers, VariableNumbers, copied};
 use crate::sizes::statements_size;
 use crate::statements::add_statements;
 use crate::steps::Setting;
-use plank_ast::{Method as MethodTree, Statement, Text, Variables};
+use plank_ast::{Method as MethodTree, Methods, Statement, Variables};
 use plank_base::{Label, Op, OutOfMemory};
 use plank_prog::{Location, Method, MethodKind};
 use sqlite_items::Items;
@@ -114,21 +114,27 @@ fn method_of(alloc: Global, names: &Numbers<'_>, method: &MethodTree) -> Result<
     })
 }
 
-/// The methods of a text that is within the limits.
-pub(crate) fn methods_of(
+fn methods_with(
     alloc: Global,
     names: &Numbers<'_>,
-    text: &Text,
+    methods: &Methods,
 ) -> Result<Items<Method>, OutOfMemory>
-    requires names { names.now ≡ names_of text.now }
-    requires first { IsSmall text.now.methods.first }
-    requires others { All IsSmall text.now.methods.others }
-    ensures { IfOk result (λ methods. methods ≡ methods_of text.now) }
+    requires first { IsSmall methods.now.first }
+    requires others { All IsSmall methods.now.others }
+    ensures { IfOk result (λ made. made ≡ method_of names.now methods.now.first ∷ map (method_of names.now) methods.now.others) }
 {
-    let mut methods = Vec::new(alloc);
-    methods.push(method_of(alloc, names, &text.methods.first)?)?;
-    for method in text.methods.others.as_slice() {
-        methods.push(method_of(alloc, names, method)?)?;
+    let mut made = Vec::new(alloc);
+    made.push(method_of(alloc, names, &methods.first)?)?;
+    for method in methods.others.as_slice() {
+        made.push(method_of(alloc, names, method)?)?;
     }
-    Ok(Items::from_vec(methods))
+    Ok(Items::from_vec(made))
+}
+
+/// The methods of a well typed text within the limits.
+pub(crate) fn methods_of(alloc: Global, limited: Limited<'_>) -> Result<Items<Method>, OutOfMemory>
+    ensures { IfOk result (λ methods. methods ≡ methods_of limited.entry.typed.now.text.now) }
+{
+    let numbers = Numbers::new(limited);
+    methods_with(alloc, &numbers, &limited.typed.text.methods)
 }

@@ -4,19 +4,19 @@ ghost use Rattle.plank_base.specs.declared.limits.TheConstants.{FLAGS_LIMIT, VAR
 ghost use Rattle.plank_rules.specs.Declarations.{number_of};
 ghost use Rattle.plank_type.specs.Numbers.{names_of, HasFewNames};
 
-use plank_ast::{FlagLine, PointerLine, Text};
+use crate::limits::Limited;
+use plank_ast::{FlagLine, PointerLine};
 use plank_base::{Label, OutOfMemory};
-use plank_rules::Declared;
+use plank_rules::Typed;
 use sqlite_items::Items;
 use std::alloc::Global;
 use std::marker::Model;
 
-/// The numbers of the names that the header of a text declares. Each name is declared once, and of each
-/// kind there are no more than the limit. Contracts see the names.
+/// The numbers of the names that the header of a well typed text within the limits declares: each name is
+/// declared once, and of each kind there are no more than the limit. Contracts see the names.
 #[derive(Debug, Drop)]
 pub(crate) struct Numbers<'a> {
-    text: &'a Text,
-    declared: &'a Declared<'a>,
+    typed: &'a Typed<'a>,
 }
 
 impl<'a> Model for Numbers<'a> {
@@ -26,24 +26,24 @@ impl<'a> Model for Numbers<'a> {
 
     ghost Value = { table.Declared };
 
-    ghost view = { λ n. n.declared.now };
+    ghost view = { λ n. n.typed.now.names };
 
-    ghost invariant = { λ n. (n.declared.now ≡ names_of n.text.now) × HasFewNames n.declared.now };
+    ghost invariant = { λ n. (n.typed.now.names ≡ names_of n.typed.now.text.now) × HasFewNames n.typed.now.names };
 }
 
 impl<'a> Numbers<'a> {
-    pub(crate) fn new(text: &'a Text, declared: &'a Declared<'a>) -> Numbers<'a>
-        requires names { declared.now ≡ names_of text.now }
-        requires few { HasFewNames declared.now }
-        ensures { result ≡ declared.now }
+    pub(crate) fn new(limited: Limited<'a>) -> Numbers<'a>
+        ensures { result ≡ names_of limited.entry.typed.now.text.now }
     {
-        Numbers { text, declared }
+        Numbers {
+            typed: limited.typed,
+        }
     }
 
     pub(crate) fn flag(&self, name: &Label) -> Option<u8>
         ensures { result ≡ number_of name.now self.now.flags }
     {
-        match self.declared.flags.number(name.as_bytes()) {
+        match self.typed.names.flags.number(name.as_bytes()) {
             Some(number) => Some(number as u8),
             None => None,
         }
@@ -52,7 +52,7 @@ impl<'a> Numbers<'a> {
     pub(crate) fn pointer(&self, name: &Label) -> Option<u8>
         ensures { result ≡ number_of name.now self.now.pointers }
     {
-        match self.declared.pointers.number(name.as_bytes()) {
+        match self.typed.names.pointers.number(name.as_bytes()) {
             Some(number) => Some(number as u8),
             None => None,
         }
@@ -62,28 +62,16 @@ impl<'a> Numbers<'a> {
     pub(crate) fn node(&self, name: &Label) -> Option<u32>
         ensures { result ≡ number_of name.now self.now.nodes }
     {
-        match self.declared.nodes.number(name.as_bytes()) {
+        match self.typed.names.nodes.number(name.as_bytes()) {
             Some(number) => Some(number as u32),
             None => None,
         }
     }
 
-    pub(crate) fn flag_count(&self) -> usize
-        ensures { result ≡ length self.now.flags }
-    {
-        self.declared.flags.len()
-    }
-
-    pub(crate) fn pointer_count(&self) -> usize
-        ensures { result ≡ length self.now.pointers }
-    {
-        self.declared.pointers.len()
-    }
-
     pub(crate) fn has_lock(&self) -> bool
         ensures { result ≡ self.now.has_lock }
     {
-        self.declared.has_lock
+        self.typed.names.has_lock
     }
 
     /// The lines that declare the flags, in their order.
@@ -91,14 +79,14 @@ impl<'a> Numbers<'a> {
         ensures names { map (λ line. line.name.label) result.now ≡ self.now.flags }
         ensures few { length result.now ≤ FLAGS_LIMIT }
     {
-        self.text.flags.as_slice()
+        self.typed.text.flags.as_slice()
     }
 
     /// The lines that declare the pointers, in their order.
     pub(crate) fn pointers(&self) -> &[PointerLine]
         ensures { map (λ line. line.name.label) result.now ≡ self.now.pointers }
     {
-        self.text.pointers.as_slice()
+        self.typed.text.pointers.as_slice()
     }
 }
 

@@ -1,6 +1,5 @@
-ghost use Rattle.std.specs.Prelude.{◌≡◌, ◌≤◌, ◌∷◌, ◌++◌, length, map, IfOk, OnOk};
+ghost use Rattle.std.specs.Prelude.{◌≡◌, ◌∷◌, ◌++◌, map, IfOk, OnOk};
 ghost use Rattle.std.specs.Option.{option_to_list};
-ghost use Rattle.plank_base.specs.declared.limits.TheConstants.{VARIABLES_LIMIT};
 ghost use Rattle.plank_prog.specs.Blocks.{is_field};
 ghost use Rattle.plank_type.specs.Operands.{reference_of, with_of, field_meaning, alone_meaning, node_meaning, meaning_of, pointers_compared, test_compared, test_alone, test_ended, test_of, bind_to, read_of, bind_of, binds_of, written_of, write_of, writes_of, no_test};
 

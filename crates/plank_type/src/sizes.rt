@@ -1,4 +1,4 @@
-ghost use Rattle.std.specs.Prelude.{◌≡◌, map};
+ghost use Rattle.std.specs.Prelude.{◌≡◌};
 ghost use Rattle.plank_type.specs.Limits.{told};
 ghost use Rattle.plank_type.specs.Statements.{statement_part, body_part, else_part, statements_size, statements_entry};
 

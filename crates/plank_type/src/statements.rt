@@ -1,5 +1,4 @@
-ghost use Rattle.std.specs.Prelude.{◌≡◌, ◌≤◌, ◌+◌, ◌++◌, ◌∷◌, [], length, OnOk};
-ghost use Rattle.plank_base.specs.declared.limits.TheConstants.{VARIABLES_LIMIT};
+ghost use Rattle.std.specs.Prelude.{◌≡◌, ◌≤◌, ◌+◌, ◌++◌, ◌∷◌, [], OnOk};
 ghost use Rattle.plank_prog.specs.declared.methods.Action.TheVariants as action;
 ghost use Rattle.plank_type.specs.Statements.{exit_within, tests_block, statement_part, body_part, else_part, statements_size, statements_locations};
 
@@ -74,23 +73,20 @@ fn add_else(
     }
 }
 
+/// Adds the location of the tests of an `if` or a `while`.
 fn add_tests(
     out: &mut Vec<Location>,
     place: Place,
     tests: &Tests,
     setting: Setting<'_>,
-    at: u32,
     yes: u32,
     no: u32,
 ) -> Result<(), OutOfMemory>
     ensures { OnOk result (out.new.items ≡ out.old.items ++ (record {
       place = place;
-      action = action.Block (tests_block setting.entry.names.now setting.entry.variables.now tests.now
-          (exit_within setting.entry.locations at yes) (exit_within setting.entry.locations at no));
+      action = action.Block (tests_block setting.entry.names.now setting.entry.variables.now tests.now yes no);
     }) ∷ []) }
 {
-    let yes = exit_within(setting.locations, at, yes);
-    let no = exit_within(setting.locations, at, no);
     let block = tests_block(setting, tests, yes, no)?;
     add_location(out, place, Action::Block(block))
 }
@@ -115,22 +111,11 @@ fn add_statement(
         }
         Statement::Atomic {
             place,
-            with,
-            tests,
-            binds,
-            writes,
+            block,
             otherwise,
         } => {
             let no = exit_within(setting.locations, at, else_entry(otherwise, at + 1, exits));
-            let block = atomic_block(
-                setting,
-                with,
-                tests.as_slice(),
-                binds.as_slice(),
-                writes.as_slice(),
-                next,
-                no,
-            )?;
+            let block = atomic_block(setting, block, next, no)?;
             add_location(out, *place, Action::Block(block))?;
             add_else(out, otherwise, setting, at + 1, exits)
         }
@@ -151,16 +136,16 @@ fn add_statement(
             otherwise,
         } => {
             let after = at + 1 + body_size(body);
-            let yes = body_entry(body, at + 1, exits);
-            let no = else_entry(otherwise, after, exits);
-            add_tests(out, *place, tests, setting, at, yes, no)?;
+            let yes = exit_within(setting.locations, at, body_entry(body, at + 1, exits));
+            let no = exit_within(setting.locations, at, else_entry(otherwise, after, exits));
+            add_tests(out, *place, tests, setting, yes, no)?;
             add_body(out, body, setting, at + 1, exits)?;
             add_else(out, otherwise, setting, after, exits)
         }
         Statement::While { place, tests, body } => {
             let inner = exits.of_loop_body(at);
-            let yes = body_entry(body, at + 1, inner);
-            add_tests(out, *place, tests, setting, at, yes, exits.next)?;
+            let yes = exit_within(setting.locations, at, body_entry(body, at + 1, inner));
+            add_tests(out, *place, tests, setting, yes, next)?;
             add_body(out, body, setting, at + 1, inner)
         }
         Statement::Loop { body, .. } => add_body(out, body, setting, at, exits.of_loop_body(at)),

@@ -1,6 +1,4 @@
-ghost use Rattle.std.specs.Prelude.{◌≡◌, ◌≤◌, ◌∷◌, length, map, IfOk};
-ghost use Rattle.std.specs.Option.{option_to_list};
-ghost use Rattle.plank_base.specs.declared.limits.TheConstants.{VARIABLES_LIMIT};
+ghost use Rattle.std.specs.Prelude.{◌≡◌, ◌∷◌, map, IfOk};
 ghost use Rattle.plank_type.specs.Operands.{test_of};
 ghost use Rattle.plank_prog.specs.declared.methods.Action.TheVariants as action;
 ghost use Rattle.plank_type.specs.Statements.{assigned, idle_block, read_block, assignment, atomic_block, tests_block, lock_block, take_lock, free_lock};
@@ -9,10 +7,7 @@ use crate::names::{Numbers, VariableNumbers};
 use crate::operands::{
     binds_of, push_given, read_of, reference_of, test_of, tests_of_lines, with_of, writes_of,
 };
-use plank_ast::{
-    Assigned, Bind as BindTree, Reference as ReferenceTree, TestLine, Tests, With,
-    Write as WriteTree,
-};
+use plank_ast::{Assigned, Block as BlockTree, Reference as ReferenceTree, Tests};
 use plank_base::{Label, OutOfMemory};
 use plank_prog::{Action, Block, Reference, Test, Value, Write};
 use sqlite_items::Items;
@@ -112,14 +107,11 @@ fn copy(alloc: Global, to: Option<u8>, from: Value, next: u32) -> Action
 /// The block of an `atomic` statement, with its exits.
 pub(crate) fn atomic_block(
     setting: Setting<'_>,
-    with: &Option<With>,
-    tests: &[TestLine],
-    binds: &[BindTree],
-    writes: &[WriteTree],
+    tree: &BlockTree,
     yes: u32,
     no: u32,
 ) -> Result<Block, OutOfMemory>
-    ensures { IfOk result (λ b. b ≡ atomic_block setting.entry.names.now setting.entry.variables.now with.now tests.now binds.now writes.now yes no) }
+    ensures { IfOk result (λ b. b ≡ atomic_block setting.entry.names.now setting.entry.variables.now tree.now yes no) }
 {
     let Setting {
         alloc,
@@ -128,10 +120,10 @@ pub(crate) fn atomic_block(
         ..
     } = setting;
     Ok(Block {
-        with: with_of(alloc, variables, with)?,
-        tests: tests_of_lines(alloc, names, variables, tests)?,
-        binds: binds_of(alloc, names, variables, binds)?,
-        writes: writes_of(alloc, names, variables, writes)?,
+        with: with_of(alloc, variables, &tree.with)?,
+        tests: tests_of_lines(alloc, names, variables, tree.tests.as_slice())?,
+        binds: binds_of(alloc, names, variables, tree.binds.as_slice())?,
+        writes: writes_of(alloc, names, variables, tree.writes.as_slice())?,
         yes,
         no,
     })

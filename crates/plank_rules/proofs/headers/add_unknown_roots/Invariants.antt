@@ -1,9 +1,11 @@
-use Rattle.std.proofs.Common.{◌≡◌, ◌++◌, drop}
+use Rattle.std.proofs.Common.{◌≡◌, drop}
 use Rattle.std.specs.List.{flat_map}
 use Rattle.plank_rules.specs.Headers.{root_rules}
+use Rattle.plank_rules.specs.Faults.{after}
 use Rattle.plank_rules.proofs.headers.add_unknown_roots.Given as goal
 
 -- the broken rules so far, with those of the parts that are left, are those of all parts
 abbrev pub invariant-loop-root : goal.invariant-loop-root
 invariant-loop-root l =
-    l.out.items ++ flat_map (root_rules l.starts) (drop l.root-index l.roots) ≡ l.fn.out.items ++ flat_map (root_rules l.starts) l.roots
+    after l.found.first (flat_map (root_rules l.starts) (drop l.root-index l.roots))
+    ≡ after l.fn.found.first (flat_map (root_rules l.starts) l.roots)

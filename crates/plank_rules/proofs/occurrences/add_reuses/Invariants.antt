@@ -1,8 +1,10 @@
-use Rattle.std.proofs.Common.{◌≡◌, ◌++◌, drop}
+use Rattle.std.proofs.Common.{◌≡◌, drop}
 use Rattle.plank_rules.specs.Occurrences.{reuses, reuses_after}
+use Rattle.plank_rules.specs.Faults.{after}
 use Rattle.plank_rules.proofs.occurrences.add_reuses.Given as goal
 
 -- the repetitions so far, with those that are left, are those of the whole list
 abbrev pub invariant-loop-occurrence : goal.invariant-loop-occurrence
 invariant-loop-occurrence l =
-    l.out.items ++ reuses_after l.bound l.names (drop l.occurrence-index l.occurrences) ≡ l.fn.out.items ++ reuses l.bound l.occurrences
+    after l.found.first (reuses_after l.bound l.names (drop l.occurrence-index l.occurrences))
+    ≡ after l.fn.found.first (reuses l.bound l.occurrences)

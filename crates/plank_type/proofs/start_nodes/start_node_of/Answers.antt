@@ -1,4 +1,4 @@
-use Rattle.std.proofs.Common.{◌≡◌, ℕ, List, Option, map, sym, ◌∙◌, ap}
+use Rattle.std.proofs.Common.{ℕ, List, Option, map, sym, ◌∙◌, ap}
 use Rattle.plank_base.specs.declared.keys.Key.{Key}
 use Rattle.plank_ast.specs.declared.header.StartItem.{StartItem}
 use Rattle.plank_prog.specs.declared.headers.StartNode.{StartNode}
