@@ -15,6 +15,9 @@ pub(crate) struct Turns {
     due: Vec<bool>,
     // The marks that were noted.
     seen: MarkWords,
+    // Where the worker is in its round of quick methods, and where in that of the others.
+    quick_place: u32,
+    other_place: u32,
 }
 
 fn flags(alloc: Global, count: u32, flag: bool) -> Result<Vec<bool>, OutOfMemory> {
@@ -38,8 +41,12 @@ fn set_flag(flags: &mut [bool], m: u32, flag: bool) {
 }
 
 impl Turns {
-    /// Every method is due.
-    pub(crate) fn new<F: Forcing>(alloc: Global, forcing: &F) -> Result<Turns, OutOfMemory> {
+    /// Every method is due. The rounds begin at this one.
+    pub(crate) fn new<F: Forcing>(
+        alloc: Global,
+        forcing: &F,
+        first: u32,
+    ) -> Result<Turns, OutOfMemory> {
         let methods = forcing.methods();
         let mut quick = flags(alloc, methods, false)?;
         for m in 0..methods {
@@ -49,34 +56,52 @@ impl Turns {
             quick,
             due: flags(alloc, methods, true)?,
             seen: MarkWords::new(alloc, forcing.words())?,
+            quick_place: first,
+            other_place: first,
         })
     }
 
     /// The worker runs the method.
     pub(crate) fn begin(&mut self, m: u32) {
         set_flag(self.due.as_mut_slice(), m, false);
+        if is_so(self.quick.as_slice(), m) {
+            self.quick_place = m;
+        } else {
+            self.other_place = m;
+        }
     }
 
-    // Some mark of the word is new.
-    fn note_set<F: Forcing>(&mut self, forcing: &F, word: u32) {
+    // Some mark of the word is new; what the last method found does not wake it.
+    fn note_set<F: Forcing>(&mut self, forcing: &F, word: u32, last: u32) {
         for m in 0..forcing.methods() {
-            if forcing.is_woken(m, word) {
+            if m != last && forcing.is_woken(m, word) {
                 set_flag(self.due.as_mut_slice(), m, true);
             }
         }
     }
 
-    fn note_word<F: Forcing>(&mut self, forcing: &F, look: &MarkWords, i: u32) {
+    fn note_word<F: Forcing>(&mut self, forcing: &F, look: &MarkWords, i: u32, last: u32) {
         if i < self.seen.len() && i < look.len() && self.seen.word(i) != look.word(i) {
             self.seen.put_word(i, look.word(i));
-            self.note_set(forcing, i);
+            self.note_set(forcing, i, last);
         }
     }
 
-    /// The worker has looked: what new marks may wake is due.
-    pub(crate) fn note_look<F: Forcing>(&mut self, forcing: &F, look: &MarkWords) {
+    /// The worker has looked after a run of the last method: what new marks may wake is due.
+    pub(crate) fn note_look<F: Forcing>(&mut self, forcing: &F, look: &MarkWords, last: u32) {
         for i in 0..look.len() {
-            self.note_word(forcing, look, i);
+            self.note_word(forcing, look, i, last);
+        }
+    }
+
+    /// What the seat has noted to be settled is not due.
+    pub(crate) fn note_settled<N: Named>(&mut self, seat: &Seat<N>, methods: u32)
+        requires { methods ≡ N.methods }
+    {
+        for m in 0..methods {
+            if !seat.is_behind(m) {
+                set_flag(self.due.as_mut_slice(), m, false);
+            }
         }
     }
 
@@ -133,21 +158,20 @@ fn first_wanted<N: Named>(
     None
 }
 
-// The next of the kind after m, going round.
-fn next_wanted<N: Named>(
-    seat: &Seat<N>,
-    turns: &Turns,
-    kind: Kind,
-    methods: u32,
-    m: u32,
-) -> Option<u32>
+// The next of the kind, going round.
+fn next_wanted<N: Named>(seat: &Seat<N>, turns: &Turns, kind: Kind, methods: u32) -> Option<u32>
     requires methods { methods ≡ N.methods }
-    requires method { m < methods }
     ensures { IfSome result (λ n. (n < N.methods) × IsBehind seat.now.view n) }
 {
-    match first_wanted(seat, turns, kind, m + 1, methods) {
+    let place = if kind.quick {
+        turns.quick_place
+    } else {
+        turns.other_place
+    };
+    let from = place.saturating_add(1).min(methods);
+    match first_wanted(seat, turns, kind, from, methods) {
         Some(next) => Some(next),
-        None => first_wanted(seat, turns, kind, 0, m + 1),
+        None => first_wanted(seat, turns, kind, 0, from),
     }
 }
 
@@ -166,22 +190,15 @@ const KINDS: [Kind; 3] = [
     },
 ];
 
-/// The method that is run after m, where `next` is behind: the next quick one that is due, else the next other
+/// The method that is run next, where `next` is behind: the next quick one that is due, else the next other
 /// that is due, else the next other, else `next`.
-pub(crate) fn choose<N: Named>(
-    seat: &Seat<N>,
-    turns: &Turns,
-    methods: u32,
-    m: u32,
-    next: u32,
-) -> u32
+pub(crate) fn choose<N: Named>(seat: &Seat<N>, turns: &Turns, methods: u32, next: u32) -> u32
     requires methods { methods ≡ N.methods }
-    requires method { m < methods }
     requires next { (next < N.methods) × IsBehind seat.now.view next }
     ensures { (result < N.methods) × IsBehind seat.now.view result }
 {
     for kind in KINDS {
-        if let Some(wanted) = next_wanted(seat, turns, kind, methods, m) {
+        if let Some(wanted) = next_wanted(seat, turns, kind, methods) {
             return wanted;
         }
     }

@@ -51,9 +51,9 @@ pub fn work<N: Named, F: Forcing, G: Gate, L: Ledger>(
     let mut look = MarkWords::new(alloc, forcing.words())?;
     board.look(seat, &mut look);
     let methods = forcing.methods();
-    let mut turns = Turns::new(alloc, forcing)?;
-    turns.note_look(forcing, &look);
-    let mut m = turns.first_quick(first_method(worker, methods), methods);
+    let first = first_method(worker, methods);
+    let mut turns = Turns::new(alloc, forcing, first)?;
+    let mut m = turns.first_quick(first, methods);
     let mut turn: u64 = 0;
     loop {
         turn = turn.saturating_add(1);
@@ -63,8 +63,9 @@ pub fn work<N: Named, F: Forcing, G: Gate, L: Ledger>(
         board.post(seat, m, &found);
         match next_method(board, seat, &mut look, methods, m) {
             Some(next) => {
-                turns.note_look(forcing, &look);
-                m = choose(seat, &turns, methods, m, next);
+                turns.note_look(forcing, &look, m);
+                turns.note_settled(seat, methods);
+                m = choose(seat, &turns, methods, next);
             }
             None => return Ok(()),
         }
